@@ -19,7 +19,7 @@ use Rattle.feed.specs.Transcript.{Transcript, led_by, no_events, transcript}
 use Rattle.liveviews.specs.Inspect.{
   Account,
   Closes,
-  Tells,
+  ReportsAccount,
   account_in,
   account_of,
   after_lines,
@@ -30,7 +30,7 @@ use Rattle.liveviews.specs.Inspect.{
 use Rattle.liveviews.specs.Inspecting.{
   Breaks,
   HasRun,
-  HasTaken,
+  HasConsumed,
   IsFresh,
   IsLeft,
   IsOpen,
@@ -258,7 +258,7 @@ last-when false = refl
 pub left-finishes :
     (law : NothingLeft) (a : Account) (i : Inspection) (u : Unit {0}) (text : List ℕ) → IsLeft a i []
     → ((t : FeedState) → Shows i.feed t → Finishes t (Ok u))
-    → text ≡ string_bytes i.text ++ (if i.ended then [] else last_line condition.Opened) → Tells a text 0
+    → text ≡ string_bytes i.text ++ (if i.ended then [] else last_line condition.Opened) → ReportsAccount a text 0
 left-finishes law a i u text l answer written =
     let valid = finish-valid l.state u (answer l.state l.shows) in
     let last : List ℕ = last_line l.state.condition in
@@ -295,7 +295,7 @@ refused-ends (Ok x) f stands = absurd stands
 refused-ends (Err fs) f stands = (f, stands, refl, refl)
 
 pub stop-tells : (a : Account) (text : List ℕ) (f : StreamFault) (all : List ℕ) → StopsAt a text f
-    → all ≡ text ++ refusal_line f → Tells a all 1
+    → all ≡ text ++ refusal_line f → ReportsAccount a all 1
 stop-tells a text f all s is = record {
   last = refusal_line f;
   whole = is ∙ ap (λ t. t ++ refusal_line f) s.whole;
@@ -315,7 +315,7 @@ written-none false old is = absurd (cc)
 
 -- what came of a whole input
 pub has-run :
-    (text input : List ℕ) (ran : Result (Unit {0}) StreamFault) → OnOk ran (Tells (account_of input) text 0)
+    (text input : List ℕ) (ran : Result (Unit {0}) StreamFault) → OnOk ran (ReportsAccount (account_of input) text 0)
     → IfErr ran (Breaks (account_of input) text) → HasRun text ran input
 has-run text input (Ok u) tells breaks = tells
 has-run text input (Err f) tells breaks = breaks
@@ -335,7 +335,7 @@ pub takes-fault :
     (i new : Inspection) (piece : List ℕ) (f : StreamFault)
     → ((a : Account) (later : List ℕ) → IsLeft a i (piece ++ later) → Breaks a (string_bytes new.text) f)
     → (bytes later : List ℕ) → ((later : List ℕ) → IsLeft (account_of (bytes ++ later)) i later)
-    → HasTaken new (Err f) ((bytes ++ piece) ++ later)
+    → HasConsumed new (Err f) ((bytes ++ piece) ++ later)
 takes-fault i new piece f stops bytes later left =
     stops (account_of ((bytes ++ piece) ++ later)) later
     (subst (λ (xs : List ℕ). IsLeft (account_of xs) i (piece ++ later)) (sym (append_assoc bytes piece later))
@@ -343,19 +343,19 @@ takes-fault i new piece f stops bytes later left =
 
 pub takes-all :
     (i : Inspection) (u : Unit {0}) (bytes : List ℕ) → ((later : List ℕ) → IsLeft (account_of (bytes ++ later)) i later)
-    → HasTaken i (Ok u) bytes
+    → HasConsumed i (Ok u) bytes
 takes-all i u bytes left = subst (λ (xs : List ℕ). IsLeft (account_of xs) i []) (append-nil bytes) (left [])
 
 -- A fault was told that isn't want of memory.
 breaks-tell :
     (text input : List ℕ) (f : StreamFault) (all : List ℕ) → (f ≡ fault.Memory → ⊥) → Breaks (account_of input) text f
-    → all ≡ text ++ refusal_line f → Tells (account_of input) all 1
+    → all ≡ text ++ refusal_line f → ReportsAccount (account_of input) all 1
 breaks-tell text input f all other (inl memory) written = absurd (other memory)
 breaks-tell text input f all other (inr stops) written = stop-tells (account_of input) text f all stops written
 
 pub fault-told :
     (text input : List ℕ) (ran : Result (Unit {0}) StreamFault) (f : StreamFault) (all : List ℕ) → ran ≡ Err f
-    → (f ≡ fault.Memory → ⊥) → HasRun text ran input → all ≡ text ++ refusal_line f → Tells (account_of input) all 1
+    → (f ≡ fault.Memory → ⊥) → HasRun text ran input → all ≡ text ++ refusal_line f → ReportsAccount (account_of input) all 1
 fault-told text input ran f all is other h written =
     breaks-tell text input f all other
     (subst (λ (r : Result (Unit {0}) StreamFault). HasRun text r input) is h) written

@@ -8,7 +8,7 @@ use Rattle.feed.specs.StoryLaw.{EventsTellAll, input_end}
 use Rattle.feed.specs.Transcript.{transcript}
 use Rattle.liveviews.specs.Files.{InspectsFile}
 use Rattle.liveviews.specs.Source.{OfSource}
-use Rattle.liveviews.specs.Inspect.{Closes, EndsAlike, Tells, account_of, last_in, last_line, status_where}
+use Rattle.liveviews.specs.Inspect.{Closes, EndsAlike, ReportsAccount, account_of, last_in, last_line, status_where}
 
 unsaid : (text : List ℕ) (m : Reading (Unit {0})) → mapped (λ (last : List ℕ). tt) (mapped (λ u. text) m) ≡ m
 unsaid text (Ok u) = refl
@@ -29,7 +29,7 @@ closes-status (Ok x) last status c = c.1
 closes-status (Err fs) last status c = c.3
 
 pub tells-status :
-    (alike : EndsAlike) (bytes text : List ℕ) (status : ℕ) → Tells (account_of bytes) text status
+    (alike : EndsAlike) (bytes text : List ℕ) (status : ℕ) → ReportsAccount (account_of bytes) text status
     → status ≡ status_where (story_of bytes).end
 tells-status alike bytes text status t =
     closes-status (account_of bytes).end t.last status t.closes ∙ ap status_where (alike bytes)
@@ -38,7 +38,7 @@ tells-status alike bytes text status t =
 pub inspects-source :
     (alike : EndsAlike) (held : Option (List ℕ)) (text : List ℕ) (status : ℕ) (HasRun : List ℕ → Type 0)
     → OfSource held HasRun
-    → ((input : List ℕ) → HasRun input → Tells (account_of input) text status) → InspectsFile held text status
+    → ((input : List ℕ) → HasRun input → ReportsAccount (account_of input) text status) → InspectsFile held text status
 inspects-source alike held text status HasRun source tells = record {
   input = source.input;
   read = source.read;

@@ -10,7 +10,7 @@ use Rattle.values.specs.declared.causes.Cause.TheVariants as cause
 use Rattle.values.specs.declared.layout.Layout.{Layout}
 use Rattle.schema_meta.specs.Rows.{rows_in, rows_from, row_at}
 use Rattle.body_writer.specs.Heavy.{HasHeavyRow, IsHeavy}
-use Rattle.liveviews.specs.Taken.{AreFit, AreTaken, IsTakenRow, RefusesRows}
+use Rattle.liveviews.specs.Taken.{AreFit, AreAccepted, IsAcceptedRow, RefusesRows}
 use Rattle.liveviews.specs.Refused.{RefusesBatch}
 
 pub rows_from-length : (columns : List (List Datum)) (i n : ℕ) → length (rows_from columns i n) ≡ n
@@ -57,17 +57,17 @@ rows-refused ls columns n before _ h = absurd h
 pub taken-rows :
     (ls : Roses Layout) (columns old new : List (List Datum)) (n : ℕ) → new ≡ old ++ rows_in n columns
     → AreFit ls columns n
-    → length old + n ≤ max_main_rows → AreTaken ls old → AreTaken ls new
+    → length old + n ≤ max_main_rows → AreAccepted ls old → AreAccepted ls new
 taken-rows ls columns old new n all fits room before =
     let size : length (rows_in n columns) ≡ n = rows_from-length columns 0 n in
-    let each : All (IsTakenRow ls) (rows_in n columns) = λ k d below.
+    let each : All (IsAcceptedRow ls) (rows_in n columns) = λ k d below.
     let inside : k < n = omega (arith, below, size) in
     let same : 0 + k ≡ k = omega arith in
     let here : slice_index_or (rows_in n columns) k d ≡ row_at columns k =
     rows_from-at columns 0 n k d inside ∙ ap (row_at columns) same in
-    subst (IsTakenRow ls) (sym here) (fits k inside) in
-    let joined : AreTaken ls (old ++ rows_in n columns) = record {
+    subst (IsAcceptedRow ls) (sym here) (fits k inside) in
+    let joined : AreAccepted ls (old ++ rows_in n columns) = record {
       few = omega (arith, length-append old (rows_in n columns), size, room);
-      each = All-append (IsTakenRow ls) old (rows_in n columns) before.each each;
+      each = All-append (IsAcceptedRow ls) old (rows_in n columns) before.each each;
     } in
-    subst (AreTaken ls) (sym all) joined
+    subst (AreAccepted ls) (sym all) joined

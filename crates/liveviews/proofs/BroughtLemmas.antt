@@ -21,11 +21,11 @@ use Rattle.body_writer.specs.declared.from_columns.batch.Batch.{Batch}
 use Rattle.liveviews.specs.Brought.{Brings}
 use Rattle.values.specs.declared.causes.Cause.{Cause}
 use Rattle.body_writer.specs.RowRanges.{batch_rows}
-use Rattle.liveviews.specs.Kept.{IsKept, IsKeptSo}
+use Rattle.liveviews.specs.Buffered.{IsBuffered, IsBufferedSo}
 use Rattle.liveviews.specs.Refused.{RefusesBatch}
-use Rattle.liveviews.specs.Steps.{AreTakenSo, Reached, Refuses}
-use Rattle.liveviews.specs.Taken.{AreTaken}
-use Rattle.liveviews.specs.declared.recasting.kept_batches.KeptBatches.{KeptBatches}
+use Rattle.liveviews.specs.Steps.{AreConsumedSo, Reached, Refuses}
+use Rattle.liveviews.specs.Taken.{AreAccepted}
+use Rattle.liveviews.specs.declared.recasting.buffered_batches.BufferedBatches.{BufferedBatches}
 use Rattle.liveviews.proofs.Counted.{as-many}
 use Rattle.liveviews.proofs.Stories.{Comes, batch-reached, batch-refused, batch-tells, typed-fields}
 
@@ -49,7 +49,7 @@ brings none knows st rows new rest columns n body typed c =
       known = sym (ap (λ x. x.known.schema) b.shows.stream) ∙ t.1;
       layouts = t.2;
       many = as-many columns.items t.0 t.2;
-      taken = subst (λ (o : Option (List (Rose Entry))). AreTakenSo o rows) schema c.taken;
+      taken = subst (λ (o : Option (List (Rose Entry))). AreConsumedSo o rows) schema c.taken;
       later = left;
       cells = ap (λ x. x.rows) b.tells ∙ sym (append_assoc rows got left);
       reached = λ taken.
@@ -64,12 +64,12 @@ brings none knows st rows new rest columns n body typed c =
 pub brought-reached :
     (s : Story) (f : FeedParts) (rows all : List (List Datum)) (b : Batch) (rest : List ℕ) → Brings s f rows b rest
     → all ≡ rows ++ batch_rows b
-    → (AreTaken (layouts_in b.columns.items) rows → AreTaken (layouts_in b.columns.items) all) → Reached s f all rest
+    → (AreAccepted (layouts_in b.columns.items) rows → AreAccepted (layouts_in b.columns.items) all) → Reached s f all rest
 brought-reached s f rows all b rest br is retained =
-    let here : AreTaken (layouts_of br.fields) rows → AreTaken (layouts_of br.fields) all =
-    subst (λ (ls : Roses Layout). AreTaken ls rows → AreTaken ls all) br.layouts retained in
+    let here : AreAccepted (layouts_of br.fields) rows → AreAccepted (layouts_of br.fields) all =
+    subst (λ (ls : Roses Layout). AreAccepted ls rows → AreAccepted ls all) br.layouts retained in
     subst (λ (rs : List (List Datum)). Reached s f rs rest) (sym is)
-    (br.reached (subst (AreTaken (layouts_of br.fields)) is (here br.taken)))
+    (br.reached (subst (AreAccepted (layouts_of br.fields)) is (here br.taken)))
 
 -- or the stream is refused
 pub brought-refused :
@@ -83,17 +83,17 @@ brought-refused s f rows b rest before c br size refused =
 
 -- what is kept beside the rows
 pub brought-kept :
-    (s : Story) (f : FeedParts) (rows : List (List Datum)) (b : Batch) (rest : List ℕ) (before after : KeptBatches)
+    (s : Story) (f : FeedParts) (rows : List (List Datum)) (b : Batch) (rest : List ℕ) (before after : BufferedBatches)
     → Brings s f rows b rest
-    → (IsKept (length b.columns.items) (layouts_in b.columns.items) before
-    → IsKept (length b.columns.items) (layouts_in b.columns.items) after)
-    → IsKeptSo s.schema before → IsKeptSo s.schema after
+    → (IsBuffered (length b.columns.items) (layouts_in b.columns.items) before
+    → IsBuffered (length b.columns.items) (layouts_in b.columns.items) after)
+    → IsBufferedSo s.schema before → IsBufferedSo s.schema after
 brought-kept s f rows b rest before after br keeps kept =
-    let P : Option (List (Rose Entry)) → KeptBatches → Type 0 = IsKeptSo in
-    let goes : IsKept (length br.fields) (layouts_of br.fields) before → IsKept (length br.fields) (layouts_of
+    let P : Option (List (Rose Entry)) → BufferedBatches → Type 0 = IsBufferedSo in
+    let goes : IsBuffered (length br.fields) (layouts_of br.fields) before → IsBuffered (length br.fields) (layouts_of
     br.fields) after =
-    subst (λ (ls : Roses Layout). IsKept (length br.fields) ls before → IsKept (length br.fields) ls after) br.layouts
-    (subst (λ (m : ℕ). IsKept m (layouts_in b.columns.items) before → IsKept m (layouts_in b.columns.items) after)
+    subst (λ (ls : Roses Layout). IsBuffered (length br.fields) ls before → IsBuffered (length br.fields) ls after) br.layouts
+    (subst (λ (m : ℕ). IsBuffered m (layouts_in b.columns.items) before → IsBuffered m (layouts_in b.columns.items) after)
     br.many keeps) in
     subst (λ (o : Option (List (Rose Entry))). P o after) (sym br.schema)
     (goes (subst (λ (o : Option (List (Rose Entry))). P o before) br.schema kept))

@@ -23,9 +23,9 @@ use Rattle.stream_writer.specs.Stream.{trees}
 use Rattle.body_writer.specs.Batch.{row_weight}
 use Rattle.body_writer.specs.Heavy.{AreLightUpTo, IsLight}
 use Rattle.liveviews.specs.Taken.{AreFit}
-use Rattle.liveviews.specs.Kept.{IsKept, IsKeptSo, IsWritable, taken_rows}
+use Rattle.liveviews.specs.Buffered.{IsBuffered, IsBufferedSo, IsWritable, buffered_rows}
 use Rattle.stream_writer.specs.Weights.{IsLightBatch, WeighsAs}
-use Rattle.liveviews.specs.declared.recasting.kept_batches.KeptBatches.{KeptBatches}
+use Rattle.liveviews.specs.declared.recasting.buffered_batches.BufferedBatches.{BufferedBatches}
 use Rattle.liveviews.proofs.BatchLemmas.{rows_from-length}
 
 -- the columns from one on: what is left to say
@@ -88,12 +88,12 @@ count-more bs new b rows next is counted e =
     let size = rows_from-length (cells_in b.columns.items) 0 b.rows in
     omega (arith, joined, size, counted, e)
 
-pub kept-more : (ls : Roses Layout) (old new : KeptBatches) (b : Batch) (most : ℕ)
+pub kept-more : (ls : Roses Layout) (old new : BufferedBatches) (b : Batch) (most : ℕ)
     → new.batches.items ≡ old.batches.items ++ b ∷ []
     → All (λ (c : CheckedColumn). length c.cells ≡ b.rows) b.columns.items
     → ls ≡ layouts_in b.columns.items
     → AreLightUpTo ls (cells_in b.columns.items) b.rows most → old.heaviest ≤ new.heaviest → most ≤ new.heaviest
-    → IsKept (length b.columns.items) ls old → IsKept (length b.columns.items) ls new
+    → IsBuffered (length b.columns.items) ls old → IsBuffered (length b.columns.items) ls new
 kept-more ls old new b most is long own light grown above kept =
     let S : Batch → Type 0 = IsSized (length b.columns.items) in
     let W : List Datum → Type 0 = λ row. row_weight ls row ≤ new.heaviest in
@@ -121,7 +121,7 @@ kept-more ls old new b most is long own light grown above kept =
           (All-append W (rows_of old.batches.items) (batch_rows b) before here);
     }
 
-pub kept-none : (n : ℕ) (ls : Roses Layout) (t : KeptBatches) → t.batches.items ≡ [] → IsKept n ls t
+pub kept-none : (n : ℕ) (ls : Roses Layout) (t : BufferedBatches) → t.batches.items ≡ [] → IsBuffered n ls t
 kept-none n ls t is = record {
   sized = subst (All (IsSized n)) (sym is) (All-nil (IsSized n));
   fit = subst (All IsLightBatch) (sym is) (All-nil IsLightBatch);
@@ -130,29 +130,29 @@ kept-none n ls t is = record {
       (All-nil (λ (row : List Datum). row_weight ls row ≤ t.heaviest));
 }
 
-pub kept-so-none : (o : Option (List (Rose Entry))) (t : KeptBatches) → t.batches.items ≡ [] → IsKeptSo o t
+pub kept-so-none : (o : Option (List (Rose Entry))) (t : BufferedBatches) → t.batches.items ≡ [] → IsBufferedSo o t
 kept-so-none None t is = tt
 kept-so-none (Some fs) t is = kept-none (length fs) (layouts_of fs) t is
 
 -- the same of the logical columns
 pub writable : (law : LogicalTrees) (weighs : NarrowRowWeighs) (fs : List (Rose Entry)) (fields : List (Rose
-    NamedType)) (t : KeptBatches)
-    → fields ≡ map logical_field fs → IsKept (length fs) (layouts_of fs) t → IsWritable fields t
+    NamedType)) (t : BufferedBatches)
+    → fields ≡ map logical_field fs → IsBuffered (length fs) (layouts_of fs) t → IsWritable fields t
 writable law weighs fs fields t named kept =
     let ls : Roses Layout = layouts_of fs in
     let same : trees (map logical_field fs) ≡ narrow_trees ls = law fs in
     let many : length fs ≡ length (map logical_field fs) = sym (length-map fs logical_field) in
-    let narrow : All (λ (row : List Datum). row_weight (narrow_trees ls) row ≤ t.heaviest) (taken_rows t) =
+    let narrow : All (λ (row : List Datum). row_weight (narrow_trees ls) row ≤ t.heaviest) (buffered_rows t) =
     All-weaker (λ (row : List Datum). row_weight ls row ≤ t.heaviest) (λ (row : List Datum). row_weight (narrow_trees
     ls) row ≤ t.heaviest)
-    (λ row h. let e = weighs ls (items_of row) in omega (arith, e, h)) (taken_rows t) kept.light in
+    (λ row h. let e = weighs ls (items_of row) in omega (arith, e, h)) (buffered_rows t) kept.light in
     let here : IsWritable (map logical_field fs) t = record {
       sized = subst (λ (n : ℕ). All (IsSized n) t.batches.items) many kept.sized;
       fit = kept.fit;
       alike = All-weaker (WeighsAs ls) (WeighsAs (trees (map logical_field fs)))
           (λ b h row. h row ∙ sym (weighs ls (items_of row)) ∙ ap (λ us. row_weight us row) (sym same))
           t.batches.items kept.alike;
-      light = subst (λ (us : Roses Layout). All (λ (row : List Datum). row_weight us row ≤ t.heaviest) (taken_rows t))
+      light = subst (λ (us : Roses Layout). All (λ (row : List Datum). row_weight us row ≤ t.heaviest) (buffered_rows t))
           (sym same) narrow;
     } in
     subst (λ (xs : List (Rose NamedType)). IsWritable xs t) (sym named) here

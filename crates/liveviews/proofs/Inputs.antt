@@ -53,20 +53,20 @@ use Rattle.feed.specs.Retained.{Retained, stream_in}
 use Rattle.feed.specs.Shown.{FeedParts, Shows}
 use Rattle.feed.specs.States.{FeedState, Finishes, after_finish, after_push, finishing_when, fresh, gives, retained_in}
 use Rattle.feed.specs.StoryLaw.{AllIsTold, IsBetween, PartialIsHeld, PartialTells, rest_story}
-use Rattle.liveviews.specs.Kept.{taken_rows}
+use Rattle.liveviews.specs.Buffered.{buffered_rows}
 use Rattle.liveviews.specs.Source.{OfSource}
 use Rattle.liveviews.specs.declared.recasting.table.Table.{Table}
-use Rattle.liveviews.specs.declared.recasting.kept_batches.KeptBatches.{KeptBatches}
-use Rattle.liveviews.specs.Steps.{AreTakenSo, GoesOn, HasTaken, HasTakenAll, IsComplete, IsRead, Reached, Refuses}
+use Rattle.liveviews.specs.declared.recasting.buffered_batches.BufferedBatches.{BufferedBatches}
+use Rattle.liveviews.specs.Steps.{AreConsumedSo, GoesOn, HasConsumed, HasConsumedAll, IsComplete, IsRead, Reached, Refuses}
 use Rattle.liveviews.proofs.Accounts.{after-shows, finish-fault, finish-valid}
-use Rattle.liveviews.proofs.KeptLemmas.{kept-so-none}
+use Rattle.liveviews.proofs.BufferedLemmas.{kept-so-none}
 use Rattle.liveviews.proofs.Stories.{after-none, between-goes, stands-refuses}
 use Rattle.liveviews.proofs.Tables.{fresh-between, nothing-tells, taken-none}
 
 -- where reading begins
 pub begins :
-    (none : NothingYet) (law : AllIsTold) (f : FeedParts) (t : KeptBatches) → Shows f (fresh None)
-    → taken_rows t ≡ [] → t.batches.items ≡ [] → (input : List ℕ) → HasTaken (story_of input) f t input
+    (none : NothingYet) (law : AllIsTold) (f : FeedParts) (t : BufferedBatches) → Shows f (fresh None)
+    → buffered_rows t ≡ [] → t.batches.items ≡ [] → (input : List ℕ) → HasConsumed (story_of input) f t input
 begins none law f t shows no-rows no-batches input =
     let s : Story = story_of input in
     let P : List (List Datum) → Type 0 = λ rows. Reached s f rows input in (
@@ -76,56 +76,56 @@ begins none law f t shows no-rows no-batches input =
     )
 
 -- A whole input is a piece behind which nothing comes.
-pub taken-whole : (s : Story) (f : FeedParts) (t : KeptBatches) (input : List ℕ) → HasTaken s f t input
-    → HasTaken s f t (input ++ [])
-taken-whole s f t input h = subst (HasTaken s f t) (sym (append-nil input)) h
+pub taken-whole : (s : Story) (f : FeedParts) (t : BufferedBatches) (input : List ℕ) → HasConsumed s f t input
+    → HasConsumed s f t (input ++ [])
+taken-whole s f t input h = subst (HasConsumed s f t) (sym (append-nil input)) h
 
 -- what is left of a piece, as the code has it
-pub taken-rest : (s : Story) (f : FeedParts) (t : KeptBatches) (bytes later : List ℕ) (n : ℕ)
-    → HasTaken s f t (drop n bytes ++ later)
-    → HasTaken s f t (take (length bytes - n) (drop n bytes) ++ later)
+pub taken-rest : (s : Story) (f : FeedParts) (t : BufferedBatches) (bytes later : List ℕ) (n : ℕ)
+    → HasConsumed s f t (drop n bytes ++ later)
+    → HasConsumed s f t (take (length bytes - n) (drop n bytes) ++ later)
 taken-rest s f t bytes later n h =
     let size : length (drop n bytes) ≡ length bytes - n = length-drop n bytes in
     let whole : take (length bytes - n) (drop n bytes) ≡ drop n bytes =
     take_all (length bytes - n) (drop n bytes) (omega (arith, size)) in
-    subst (λ (xs : List ℕ). HasTaken s f t (xs ++ later)) (sym whole) h
+    subst (λ (xs : List ℕ). HasConsumed s f t (xs ++ later)) (sym whole) h
 
 pub no-bytes : (bytes : List ℕ) → length bytes ≤ 0 → bytes ≡ []
 no-bytes [] none = refl
 no-bytes (b ∷ bs) none = absurd (omega (arith, none))
 
 -- Nothing is left of a piece.
-pub taken-all : (s : Story) (f : FeedParts) (t : KeptBatches) (bytes later : List ℕ) → length bytes ≤ 0
-    → HasTaken s f t (bytes ++ later) → HasTaken s f t later
+pub taken-all : (s : Story) (f : FeedParts) (t : BufferedBatches) (bytes later : List ℕ) → length bytes ≤ 0
+    → HasConsumed s f t (bytes ++ later) → HasConsumed s f t later
 taken-all s f t bytes later none h =
-    subst (λ (xs : List ℕ). HasTaken s f t (xs ++ later)) (no-bytes bytes none) h
+    subst (λ (xs : List ℕ). HasConsumed s f t (xs ++ later)) (no-bytes bytes none) h
 
 -- the same of bytes that are read of a source
 pub source-more :
-    (f new : FeedParts) (t after : KeptBatches) (piece : List ℕ)
-    → ((s : Story) (later : List ℕ) → HasTaken s f t (piece ++ later) → HasTaken s new after later) → (bytes : List ℕ)
-    → ((later : List ℕ) → HasTaken (story_of (bytes ++ later)) f t later) → (later : List ℕ)
-    → HasTaken (story_of ((bytes ++ piece) ++ later)) new after later
+    (f new : FeedParts) (t after : BufferedBatches) (piece : List ℕ)
+    → ((s : Story) (later : List ℕ) → HasConsumed s f t (piece ++ later) → HasConsumed s new after later) → (bytes : List ℕ)
+    → ((later : List ℕ) → HasConsumed (story_of (bytes ++ later)) f t later) → (later : List ℕ)
+    → HasConsumed (story_of ((bytes ++ piece) ++ later)) new after later
 source-more f new t after piece goes bytes taken later =
     goes (story_of ((bytes ++ piece) ++ later)) later
-    (subst (λ (xs : List ℕ). HasTaken (story_of xs) f t (piece ++ later)) (sym (append_assoc bytes piece later))
+    (subst (λ (xs : List ℕ). HasConsumed (story_of xs) f t (piece ++ later)) (sym (append_assoc bytes piece later))
     (taken (piece ++ later)))
 
 pub source-fault :
-    (f new : FeedParts) (t after : KeptBatches) (piece : List ℕ) (c : Cause)
-    → ((s : Story) (later : List ℕ) → HasTaken s f t (piece ++ later) → Refuses s c) → (bytes later : List ℕ)
-    → ((later : List ℕ) → HasTaken (story_of (bytes ++ later)) f t later)
-    → HasTakenAll new after (Err c) ((bytes ++ piece) ++ later)
+    (f new : FeedParts) (t after : BufferedBatches) (piece : List ℕ) (c : Cause)
+    → ((s : Story) (later : List ℕ) → HasConsumed s f t (piece ++ later) → Refuses s c) → (bytes later : List ℕ)
+    → ((later : List ℕ) → HasConsumed (story_of (bytes ++ later)) f t later)
+    → HasConsumedAll new after (Err c) ((bytes ++ piece) ++ later)
 source-fault f new t after piece c stops bytes later taken =
     stops (story_of ((bytes ++ piece) ++ later)) later
-    (subst (λ (xs : List ℕ). HasTaken (story_of xs) f t (piece ++ later)) (sym (append_assoc bytes piece later))
+    (subst (λ (xs : List ℕ). HasConsumed (story_of xs) f t (piece ++ later)) (sym (append_assoc bytes piece later))
     (taken (piece ++ later)))
 
 pub source-all :
-    (f : FeedParts) (t : KeptBatches) (u : Unit {0}) (bytes : List ℕ)
-    → ((later : List ℕ) → HasTaken (story_of (bytes ++ later)) f t later) → HasTakenAll f t (Ok u) bytes
+    (f : FeedParts) (t : BufferedBatches) (u : Unit {0}) (bytes : List ℕ)
+    → ((later : List ℕ) → HasConsumed (story_of (bytes ++ later)) f t later) → HasConsumedAll f t (Ok u) bytes
 source-all f t u bytes taken =
-    subst (λ (xs : List ℕ). HasTaken (story_of xs) f t []) (append-nil bytes) (taken [])
+    subst (λ (xs : List ℕ). HasConsumed (story_of xs) f t []) (append-nil bytes) (taken [])
 
 -- Where a message is begun and not ended, the input may not end.
 held-test : (n : ℕ) (t : Bool) (m : Reading (Unit {0})) → 0 < n → (n == 0) ≡ t
@@ -252,27 +252,27 @@ reached-complete tells keeps s f new rows u answer after (inr e) =
 
 -- the table of all bytes of a source, or why there is none
 read-so :
-    (f : FeedParts) (rows : KeptBatches) (read : Result Table Cause)
-    → IfOk read (λ t. (s : Story) → HasTaken s f rows [] → Means s t.schema.fields.items (taken_rows t.rows))
-    → OnOk read ((s : Story) → HasTaken s f rows [] → AreTakenSo s.schema s.rows)
-    → IfErr read (λ c. (s : Story) → HasTaken s f rows [] → Refuses s c)
-    → (input : List ℕ) → HasTaken (story_of input) f rows [] → IsRead read input
+    (f : FeedParts) (rows : BufferedBatches) (read : Result Table Cause)
+    → IfOk read (λ t. (s : Story) → HasConsumed s f rows [] → Means s t.schema.fields.items (buffered_rows t.rows))
+    → OnOk read ((s : Story) → HasConsumed s f rows [] → AreConsumedSo s.schema s.rows)
+    → IfErr read (λ c. (s : Story) → HasConsumed s f rows [] → Refuses s c)
+    → (input : List ℕ) → HasConsumed (story_of input) f rows [] → IsRead read input
 read-so f rows (Ok t) means accepted refused input taken =
     (means (story_of input) taken, accepted (story_of input) taken)
 read-so f rows (Err c) means accepted refused input taken = refused (story_of input) taken
 
 taken-so :
-    (f : FeedParts) (rows : KeptBatches) (all : Result (Unit {0}) Cause) (u : Unit {0}) (input : List ℕ) → all ≡ Ok u
-    → HasTakenAll f rows all input → HasTaken (story_of input) f rows []
+    (f : FeedParts) (rows : BufferedBatches) (all : Result (Unit {0}) Cause) (u : Unit {0}) (input : List ℕ) → all ≡ Ok u
+    → HasConsumedAll f rows all input → HasConsumed (story_of input) f rows []
 taken-so f rows all u input is h =
-    subst (λ (r : Result (Unit {0}) Cause). HasTakenAll f rows r input) is h
+    subst (λ (r : Result (Unit {0}) Cause). HasConsumedAll f rows r input) is h
 
 pub source-read :
-    (held : Option (List ℕ)) (f : FeedParts) (rows : KeptBatches) (all : Result (Unit {0}) Cause) (u : Unit {0})
-    (read : Result Table Cause) → all ≡ Ok u → OfSource held (HasTakenAll f rows all)
-    → IfOk read (λ t. (s : Story) → HasTaken s f rows [] → Means s t.schema.fields.items (taken_rows t.rows))
-    → OnOk read ((s : Story) → HasTaken s f rows [] → AreTakenSo s.schema s.rows)
-    → IfErr read (λ c. (s : Story) → HasTaken s f rows [] → Refuses s c) → OfSource held (IsRead read)
+    (held : Option (List ℕ)) (f : FeedParts) (rows : BufferedBatches) (all : Result (Unit {0}) Cause) (u : Unit {0})
+    (read : Result Table Cause) → all ≡ Ok u → OfSource held (HasConsumedAll f rows all)
+    → IfOk read (λ t. (s : Story) → HasConsumed s f rows [] → Means s t.schema.fields.items (buffered_rows t.rows))
+    → OnOk read ((s : Story) → HasConsumed s f rows [] → AreConsumedSo s.schema s.rows)
+    → IfErr read (λ c. (s : Story) → HasConsumed s f rows [] → Refuses s c) → OfSource held (IsRead read)
 source-read held f rows all u read is source means accepted refused = record {
   input = source.input;
   read = source.read;
@@ -280,7 +280,7 @@ source-read held f rows all u read is source means accepted refused = record {
 }
 
 pub source-story :
-    (held : Option (List ℕ)) (f : FeedParts) (rows : KeptBatches) (all : Result (Unit {0}) Cause) (u : Unit {0})
-    → all ≡ Ok u → OfSource held (HasTakenAll f rows all) → (s : Story) × HasTaken s f rows []
+    (held : Option (List ℕ)) (f : FeedParts) (rows : BufferedBatches) (all : Result (Unit {0}) Cause) (u : Unit {0})
+    → all ≡ Ok u → OfSource held (HasConsumedAll f rows all) → (s : Story) × HasConsumed s f rows []
 source-story held f rows all u is source =
     (story_of source.input, taken-so f rows all u source.input is source.so)

@@ -10,7 +10,7 @@ pub mod SourceLemmas
 pub mod Accounts
 pub mod Alike
 pub mod Counted
-pub mod KeptLemmas
+pub mod BufferedLemmas
 pub mod Shows
 pub mod BroughtLemmas
 pub mod StreamLemmas

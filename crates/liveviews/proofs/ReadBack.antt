@@ -56,7 +56,7 @@ use Rattle.messages.specs.State.{IsRead}
 use Rattle.stream_writer.specs.RoundTrip.{DeclaredMeansItsTable, MeansItsTable}
 use Rattle.stream_writer.specs.Table.{IsTable}
 use Rattle.liveviews.specs.ReadBack.{DeclaredReadBack, ReadBack}
-use Rattle.liveviews.specs.Steps.{AreTakenSo}
+use Rattle.liveviews.specs.Steps.{AreConsumedSo}
 use Rattle.liveviews.proofs.Tables.{table-fits}
 
 values-read :
@@ -150,7 +150,7 @@ pub record Laws : Type 0 where
 columns-fit :
     (laws : Laws) (o : Option (List (Rose Entry))) (fields : List (Rose NamedType)) (rows : List (List Datum))
     → IsRead o
-    → option_map (λ fs. map logical_field fs) o ≡ Some fields → AreTakenSo o rows
+    → option_map (λ fs. map logical_field fs) o ≡ Some fields → AreConsumedSo o rows
     → IsTable fields rows × AreNamed fields
 columns-fit laws None fields rows read e taken = absurd (cc)
 columns-fit laws (Some fs) fields rows read e taken =
@@ -164,9 +164,9 @@ columns-fit laws (Some fs) fields rows read e taken =
 table-of :
     (laws : Laws) (input : List ℕ) (fields : List (Rose NamedType)) (rows : List (List Datum))
     → Means (story_of input) fields rows
-    → AreTakenSo (story_of input).schema (story_of input).rows → IsTable fields rows × AreNamed fields
+    → AreConsumedSo (story_of input).schema (story_of input).rows → IsTable fields rows × AreNamed fields
 table-of laws input fields rows means taken =
-    let P : List (List Datum) → Type 0 = AreTakenSo (story_of input).schema in
+    let P : List (List Datum) → Type 0 = AreConsumedSo (story_of input).schema in
     columns-fit laws (story_of input).schema fields rows (all-read laws.message input) means.columns
     (subst P means.cells taken)
 

@@ -15,9 +15,9 @@ use Rattle.stream_writer.specs.Stream.{canon}
 use Rattle.stream_writer.specs.declared.faults.WriteFault.{WriteFault}
 use Rattle.liveviews.specs.ReadBack.{ReadBack}
 use Rattle.liveviews.specs.Files.{IsContent, RecastsFile, RecastsSource, source_fault_of}
-use Rattle.liveviews.specs.Kept.{taken_rows}
+use Rattle.liveviews.specs.Buffered.{buffered_rows}
 use Rattle.liveviews.specs.Source.{OfSource}
-use Rattle.liveviews.specs.Steps.{AreTakenSo, IsRead, Refuses}
+use Rattle.liveviews.specs.Steps.{AreConsumedSo, IsRead, Refuses}
 use Rattle.liveviews.specs.declared.files.FileFault.{FileFault}
 use Rattle.liveviews.specs.declared.files.FileFault.TheVariants as file
 use Rattle.liveviews.specs.declared.recasting.whole.RecastFault.{RecastFault}
@@ -70,7 +70,7 @@ refused-stops old c s h = (untouched old, h)
 pub written-table :
     (law : ReadBack) (old new : Sunk) (answer : Result ℕ WriteFault) (input : List ℕ) (fields : List (Rose NamedType))
     (rows : List (List Datum)) → Means (story_of input) fields rows
-    → AreTakenSo (story_of input).schema (story_of input).rows
+    → AreConsumedSo (story_of input).schema (story_of input).rows
     → Writes old new answer (canon fields rows) → WritesTable old new answer (story_of input)
 written-table law old new answer input fields rows means taken writes =
     record { fields = fields; rows = rows; means = means; writes = writes; back = law input fields rows means taken }
@@ -87,15 +87,15 @@ put-refused old input read c is h =
 pub put-written :
     (law : ReadBack) (old new : Sunk) (answer : Result ℕ WriteFault) (input : List ℕ) (read : Result Table Cause)
     (t : Table) → read ≡ Ok t → IsRead read input
-    → Writes old new answer (canon t.schema.fields.items (taken_rows t.rows))
+    → Writes old new answer (canon t.schema.fields.items (buffered_rows t.rows))
     → WritesTable old new answer (story_of input)
 put-written law old new answer input read t is h writes =
     let so : IsRead (Ok t) input = subst (λ (r : Result Table Cause). IsRead r input) is h in
-    written-table law old new answer input t.schema.fields.items (taken_rows t.rows) so.0 so.1 writes
+    written-table law old new answer input t.schema.fields.items (buffered_rows t.rows) so.0 so.1 writes
 
 pub put-accepted :
     (input : List ℕ) (read : Result Table Cause) (t : Table) → read ≡ Ok t → IsRead read input
-    → AreTakenSo (story_of input).schema (story_of input).rows
+    → AreConsumedSo (story_of input).schema (story_of input).rows
 put-accepted input read t is h =
     let so : IsRead (Ok t) input = subst (λ (r : Result Table Cause). IsRead r input) is h in so.1
 

@@ -50,9 +50,9 @@ failed-writes old new fault whole put = record {
 -- It took all of the stream, and could not be placed.
 pub unplaced-ends :
     (held read : Option (List ℕ)) (start old new thrown : Sunk) (n : ℕ) (fault : DeviceFault)
-    (unmade : Option FileFault) → HoldsFile held read → StreamsSource read start thrown (Ok n)
-    → Puts old new (Err fault) [] → StopsFor held old new unmade cause.Device
-unplaced-ends held read start old new thrown n fault unmade holds streams put =
+    (not_created : Option FileFault) → HoldsFile held read → StreamsSource read start thrown (Ok n)
+    → Puts old new (Err fault) [] → StopsFor held old new not_created cause.Device
+unplaced-ends held read start old new thrown n fault not_created holds streams put =
     let writes = streams.so in
     inr (inr (inr (inl (
       0,
@@ -71,11 +71,11 @@ unplaced-ends held read start old new thrown n fault unmade holds streams put =
 
 -- It was thrown away.
 pub thrown-ends :
-    (held read : Option (List ℕ)) (start old new thrown : Sunk) (fault : SourceFault) (unmade : Option FileFault)
+    (held read : Option (List ℕ)) (start old new thrown : Sunk) (fault : SourceFault) (not_created : Option FileFault)
     (path : Refusal) → start ≡ old → HoldsFile held read → StreamsSource read start thrown (Err fault) → new ≡ old
-    → StopsSo held old new unmade path → StopsSo held old new unmade (refusal_after path fault)
-thrown-ends held read start old new thrown source.Unreadable unmade path begun holds streams same named = named
-thrown-ends held read start old new thrown (source.Refused f) unmade path begun holds streams same named =
+    → StopsSo held old new not_created path → StopsSo held old new not_created (refusal_after path fault)
+thrown-ends held read start old new thrown source.Unreadable not_created path begun holds streams same named = named
+thrown-ends held read start old new thrown (source.Refused f) not_created path begun holds streams same named =
     inr (inr (inr (inr (
       record {
         thrown = thrown;

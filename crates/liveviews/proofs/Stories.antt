@@ -83,8 +83,8 @@ use Rattle.body_writer.specs.Heavy.{IsHeavy}
 use Rattle.liveviews.specs.Refused.{RefusesBatch}
 use Rattle.liveviews.proofs.Accounts.{after-shows, gave, gives-fault, uses-some}
 use Rattle.liveviews.proofs.Tables.{after-by}
-use Rattle.liveviews.specs.Steps.{AreTakenSo, Ended, GoesOn, HasHeavyRow, IsOpen, Reached, Refuses, Tells}
-use Rattle.liveviews.specs.Taken.{AreTaken}
+use Rattle.liveviews.specs.Steps.{AreConsumedSo, Ended, GoesOn, HasHeavyRow, IsOpen, Reached, Refuses, ReadsAs}
+use Rattle.liveviews.specs.Taken.{AreAccepted}
 
 -- a fault that stands in a stream
 pub stands-refuses : (st : Story) (f : StreamFault) → Stands st.end f → Refuses st (cause_of f)
@@ -324,7 +324,7 @@ pub record Comes (st : Story) (rows : List (List Datum)) (new : FeedParts) (v : 
   pub shows : Shows new state
   pub follows : state.condition ≡ condition_after condition.Opened (Some v)
   pub none_held : (retained_in state).held ≡ []
-  pub taken : AreTakenSo st.schema rows
+  pub taken : AreConsumedSo st.schema rows
   pub tells : st ≡ after_rows rows (rest_story_from v (retained_in state) rest)
 
 begun-goes : (t : FeedState) (held : List ℕ) → IsBetween t
@@ -421,7 +421,7 @@ pub record Passes (v : Event) : Type 0 where
 -- between two messages
 pub between-goes :
     (none : NothingYet) (st : Story) (rows : List (List Datum)) (f : FeedParts) (rest : List ℕ) (state : FeedState)
-    → IsBetween state → Shows f state → AreTakenSo st.schema rows → Tells st rows (retained_in state) rest
+    → IsBetween state → Shows f state → AreConsumedSo st.schema rows → ReadsAs st rows (retained_in state) rest
     → GoesOn st f rows rest
 between-goes none st rows f rest state between shows taken tells = record {
   state = state;
@@ -496,19 +496,19 @@ pub batch-reached :
     (none : NothingYet) (knows : StoryKnowsSchema) (st : Story) (rows taken : List (List Datum)) (new : FeedParts)
     (rest : List ℕ) (columns : List (List Datum)) (n body : ℕ) (fields : List (Rose Entry))
     → new.framing.current.known.schema ≡ Some fields → taken ≡ rows ++ rows_in n columns
-    → (AreTaken (layouts_of fields) rows → AreTaken (layouts_of fields) taken)
+    → (AreAccepted (layouts_of fields) rows → AreAccepted (layouts_of fields) taken)
     → Comes st rows new (batch columns n body) rest → Reached st new taken rest
 batch-reached none knows st rows taken new rest columns n body fields there all retained c =
     let b = batch-tells knows st rows new rest columns n body fields there c in
     let more : Story = rest_story (retained_in b.state) rest in
     let schema : st.schema ≡ Some fields = ap (λ x. x.schema) b.tells ∙ b.schema in
-    let before : AreTakenSo (Some fields) rows =
-    subst (λ (o : Option (List (Rose Entry))). AreTakenSo o rows) schema c.taken in
+    let before : AreConsumedSo (Some fields) rows =
+    subst (λ (o : Option (List (Rose Entry))). AreConsumedSo o rows) schema c.taken in
     let joined : (rows ++ (rows_in n columns ++ more.rows)) ≡ taken ++ more.rows =
     sym (append_assoc rows (rows_in n columns) more.rows) ∙ ap (λ xs. xs ++ more.rows) (sym all) in
     inl
     (between-goes none st taken new rest b.state b.between b.shows
-    (subst (λ (o : Option (List (Rose Entry))). AreTakenSo o taken) (sym schema) (retained before))
+    (subst (λ (o : Option (List (Rose Entry))). AreConsumedSo o taken) (sym schema) (retained before))
     (b.tells ∙ ap (told_with more.schema more.end) joined)) where
       told_with : Option (List (Rose Entry)) → Reading (Unit {0}) → List (List Datum) → Story
       told_with known end xs = record { schema = known; rows = xs; end = end }

@@ -43,7 +43,7 @@ use Rattle.stream_writer.proofs.ProgressLemmas.{stops-memory}
 use Rattle.liveviews.specs.Brought.{Brings}
 use Rattle.liveviews.specs.Recast.{WritesTable, fault_of}
 use Rattle.liveviews.specs.ReadBack.{ReadBack}
-use Rattle.liveviews.specs.Steps.{AreTakenSo, IsComplete, Refuses}
+use Rattle.liveviews.specs.Steps.{AreConsumedSo, IsComplete, Refuses}
 use Rattle.liveviews.specs.Source.{OfRead, OfSource}
 use Rattle.liveviews.specs.declared.files.FileFault.{FileFault}
 use Rattle.liveviews.specs.declared.files.FileFault.TheVariants as file
@@ -61,10 +61,10 @@ use Rattle.liveviews.specs.Streams.{
   unread_after,
   written_by,
 }
-use Rattle.liveviews.specs.Taken.{AreFit, AreTaken, IsTakenRow}
+use Rattle.liveviews.specs.Taken.{AreFit, AreAccepted, IsAcceptedRow}
 use Rattle.liveviews.specs.declared.recasting.one_pass.Streaming.{Streaming}
 use Rattle.liveviews.proofs.BatchLemmas.{taken-rows}
-use Rattle.liveviews.proofs.KeptLemmas.{all-rows, fit-rows}
+use Rattle.liveviews.proofs.BufferedLemmas.{all-rows, fit-rows}
 use Rattle.liveviews.proofs.Recasts.{no-device, some-content}
 use Rattle.liveviews.proofs.Inputs.{no-bytes}
 use Rattle.liveviews.proofs.SourceLemmas.{read-enough}
@@ -148,7 +148,7 @@ module _ (law : LogicalTrees) (fits : NarrowFits) (holds : NarrowHoldsEach) (wei
       (λ k lo hi.
       let row : List Datum = row_at (cells_in b.columns.items) k in
       row-fits law fits holds weighs entries row
-      (subst (λ (us : Roses Layout). IsTakenRow us row) same (fit k (omega (arith, hi))))) in
+      (subst (λ (us : Roses Layout). IsAcceptedRow us row) same (fit k (omega (arith, hi))))) in
       let alike : WeighsAs (trees fs) b =
       (λ row. ap (λ us. row_weight us row) same ∙ sym (narrow-weight entries row)) in
       record {
@@ -240,15 +240,15 @@ complete-writes law start new answer input f entries rows complete begins writes
       columns = ap (option_map (λ gs. map logical_field gs)) begins.schema;
       cells = cells;
     } in
-    let taken : AreTakenSo s.schema s.rows =
-    subst (λ (rs : List (List Datum)). AreTakenSo s.schema rs) (sym cells) complete.taken in
+    let taken : AreConsumedSo s.schema s.rows =
+    subst (λ (rs : List (List Datum)). AreConsumedSo s.schema rs) (sym cells) complete.taken in
     record { fields = fs; rows = rows; means = means; writes = writes; back = law input fs rows means taken }
 
 pub complete-accepted : (s : Story) (f : FeedParts) (rows : List (List Datum)) → IsComplete s f rows
-    → AreTakenSo s.schema s.rows
+    → AreConsumedSo s.schema s.rows
 complete-accepted s f rows complete =
     let cells : s.rows ≡ rows = ap (λ x. x.rows) complete.tells ∙ append-nil rows in
-    subst (λ (rs : List (List Datum)). AreTakenSo s.schema rs) (sym cells) complete.taken
+    subst (λ (rs : List (List Datum)). AreConsumedSo s.schema rs) (sym cells) complete.taken
 
 -- what is left of a piece, as the code has it
 pub streamed-rest :
@@ -334,7 +334,7 @@ begins-none : (s : Story) (entries : List (Rose Entry)) → s.schema ≡ Some en
     → BeginsTable s entries []
 begins-none s entries schema table = record { schema = schema; table = table; later = s.rows; cells = refl }
 
-pub no-rows : (o : List (Rose Entry)) → AreTaken (layouts_of o) []
+pub no-rows : (o : List (Rose Entry)) → AreAccepted (layouts_of o) []
 no-rows o = record { few = omega arith; each = λ k d below. absurd (omega (arith, below)) }
 
 pub begin-stops :

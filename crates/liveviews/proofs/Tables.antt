@@ -31,15 +31,15 @@ use Rattle.feed.specs.Retained.{Retained, retained, retained_of}
 use Rattle.feed.specs.Shown.{FeedParts, Shows}
 use Rattle.feed.specs.States.{FeedState, fresh, retained_in}
 use Rattle.feed.specs.StoryLaw.{IsBetween, rest_story}
-use Rattle.liveviews.specs.Taken.{AreTaken, IsTakenRow}
-use Rattle.liveviews.specs.Kept.{IsKept, IsKeptSo}
-use Rattle.liveviews.specs.declared.recasting.kept_batches.KeptBatches.{KeptBatches}
-use Rattle.liveviews.specs.Steps.{AreTakenSo, IsComplete, Refuses}
+use Rattle.liveviews.specs.Taken.{AreAccepted, IsAcceptedRow}
+use Rattle.liveviews.specs.Buffered.{IsBuffered, IsBufferedSo}
+use Rattle.liveviews.specs.declared.recasting.buffered_batches.BufferedBatches.{BufferedBatches}
+use Rattle.liveviews.specs.Steps.{AreConsumedSo, IsComplete, Refuses}
 
 -- What is known of the logical columns is handed in: it is the contract of `logical_law`.
 module _ (trees : LogicalTrees) (fits : NarrowFits) (holds : NarrowHoldsEach) (weighs : NarrowRowWeighs) where
   -- rows that the columns hold as they are stored are rows of the logical columns
-  pub row-fits : (fields : List (Rose Entry)) (row : List Datum) → IsTakenRow (layouts_of fields) row
+  pub row-fits : (fields : List (Rose Entry)) (row : List Datum) → IsAcceptedRow (layouts_of fields) row
       → IsRow (map logical_field fields) row
   row-fits fields row taken =
       let ls : Roses Layout = layouts_of fields in
@@ -54,7 +54,7 @@ module _ (trees : LogicalTrees) (fits : NarrowFits) (holds : NarrowHoldsEach) (w
 
   pub table-fits :
       (columns : ColumnsFit) (fields : List (Rose Entry)) (rows : List (List Datum)) → AreFields fields
-      → AreTaken (layouts_of fields) rows
+      → AreAccepted (layouts_of fields) rows
       → IsTable (map logical_field fields) rows
   table-fits columns fields rows sound taken = record {
     columns = columns fields sound;
@@ -88,18 +88,18 @@ complete-means s f rows cells fs fields shown named same complete = record {
 pub complete-taken :
     (s : Story) (f : FeedParts) (rows : List (List Datum)) (fs : List (Rose Entry))
     → ((t : FeedState) → Shows f t → Some fs ≡ (retained_in t).known.schema)
-    → IsComplete s f rows → AreTaken (layouts_of fs) rows
+    → IsComplete s f rows → AreAccepted (layouts_of fs) rows
 complete-taken s f rows fs shown complete =
-    subst (λ (o : Option (List (Rose Entry))). AreTakenSo o rows) (complete-schema s f rows (Some fs) shown complete)
+    subst (λ (o : Option (List (Rose Entry))). AreConsumedSo o rows) (complete-schema s f rows (Some fs) shown complete)
     complete.taken
 
 -- what is kept beside it
 pub complete-kept :
-    (s : Story) (f : FeedParts) (rows : List (List Datum)) (fs : List (Rose Entry)) (t : KeptBatches)
+    (s : Story) (f : FeedParts) (rows : List (List Datum)) (fs : List (Rose Entry)) (t : BufferedBatches)
     → ((u : FeedState) → Shows f u → Some fs ≡ (retained_in u).known.schema)
-    → IsComplete s f rows → IsKeptSo s.schema t → IsKept (length fs) (layouts_of fs) t
+    → IsComplete s f rows → IsBufferedSo s.schema t → IsBuffered (length fs) (layouts_of fs) t
 complete-kept s f rows fs t shown complete kept =
-    subst (λ (o : Option (List (Rose Entry))). IsKeptSo o t) (complete-schema s f rows (Some fs) shown complete) kept
+    subst (λ (o : Option (List (Rose Entry))). IsBufferedSo o t) (complete-schema s f rows (Some fs) shown complete) kept
 
 -- without a schema there is no table
 pub complete-lacks :
@@ -116,7 +116,7 @@ pub fresh-between : IsBetween (fresh None)
 unfolding retained_of retained
 fresh-between = record { goes_on = refl; none_held = refl }
 
-pub taken-none : (o : Option (List (Rose Entry))) → AreTakenSo o []
+pub taken-none : (o : Option (List (Rose Entry))) → AreConsumedSo o []
 taken-none None = refl
 taken-none (Some fields) = record { few = omega arith; each = λ k d below. absurd (omega (arith, below)) }
 

@@ -13,7 +13,7 @@ use Rattle.body_writer.specs.declared.from_columns.batch.Batch.{Batch}
 use Rattle.body_writer.specs.RowRanges.{batch_rows}
 use Rattle.liveviews.specs.Refused.{RefusesBatch}
 use Rattle.liveviews.specs.Steps.{Reached, Refuses}
-use Rattle.liveviews.specs.Taken.{AreTaken}
+use Rattle.liveviews.specs.Taken.{AreAccepted}
 
 -- These rows of the stream were taken, then this batch of its columns came, and these bytes come. Its rows can be taken
 -- with the others, or the stream is refused as they are.
@@ -25,8 +25,8 @@ pub record Brings (s : Story) (f : FeedParts) (rows : List (List Datum)) (b : Ba
   pub known : (retained_in state).known.schema ≡ Some fields
   pub layouts : layouts_in b.columns.items ≡ layouts_of fields
   pub many : length b.columns.items ≡ length fields
-  pub taken : AreTaken (layouts_of fields) rows
+  pub taken : AreAccepted (layouts_of fields) rows
   pub later : List (List Datum)
   pub cells : s.rows ≡ (rows ++ batch_rows b) ++ later
-  pub reached : AreTaken (layouts_of fields) (rows ++ batch_rows b) → Reached s f (rows ++ batch_rows b) rest
+  pub reached : AreAccepted (layouts_of fields) (rows ++ batch_rows b) → Reached s f (rows ++ batch_rows b) rest
   pub refused : (c : Cause) → RefusesBatch (layouts_of fields) (batch_rows b) (length rows) c → Refuses s c

@@ -13,24 +13,24 @@ use Rattle.body_writer.specs.RowRanges.{IsSized, rows_of}
 use Rattle.stream_writer.specs.Stream.{trees}
 use Rattle.body_writer.specs.Batch.{row_weight}
 use Rattle.stream_writer.specs.Weights.{IsLightBatch, WeighsAs}
-use Rattle.liveviews.specs.declared.recasting.kept_batches.KeptBatches.{KeptBatches}
+use Rattle.liveviews.specs.declared.recasting.buffered_batches.BufferedBatches.{BufferedBatches}
 
-abbrev pub taken_rows : KeptBatches → List (List Datum)
-taken_rows t = rows_of t.batches.items
+abbrev pub buffered_rows : BufferedBatches → List (List Datum)
+buffered_rows t = rows_of t.batches.items
 
-abbrev pub IsCounted : KeptBatches → Type 0
-IsCounted t = t.rows ≡ length (taken_rows t)
+abbrev pub IsCounted : BufferedBatches → Type 0
+IsCounted t = t.rows ≡ length (buffered_rows t)
 
 -- each batch has n columns, which weigh as these layouts, and no row is too heavy, or heavier than `heaviest`
-pub record IsKept (n : ℕ) (ls : Roses Layout) (t : KeptBatches) : Type 0 where
+pub record IsBuffered (n : ℕ) (ls : Roses Layout) (t : BufferedBatches) : Type 0 where
   pub sized : All (IsSized n) t.batches.items
   pub fit : All IsLightBatch t.batches.items
   pub alike : All (WeighsAs ls) t.batches.items
-  pub light : All (λ (row : List Datum). row_weight ls row ≤ t.heaviest) (taken_rows t)
+  pub light : All (λ (row : List Datum). row_weight ls row ≤ t.heaviest) (buffered_rows t)
 
-abbrev pub IsKeptSo : Option (List (Rose Entry)) → KeptBatches → Type 0
-IsKeptSo None t = Unit {0}
-IsKeptSo (Some fields) t = IsKept (length fields) (layouts_of fields) t
+abbrev pub IsBufferedSo : Option (List (Rose Entry)) → BufferedBatches → Type 0
+IsBufferedSo None t = Unit {0}
+IsBufferedSo (Some fields) t = IsBuffered (length fields) (layouts_of fields) t
 
-abbrev pub IsWritable : List (Rose NamedType) → KeptBatches → Type 0
-IsWritable fields t = IsKept (length fields) (trees fields) t
+abbrev pub IsWritable : List (Rose NamedType) → BufferedBatches → Type 0
+IsWritable fields t = IsBuffered (length fields) (trees fields) t

@@ -4,7 +4,7 @@ use Rattle.std.specs.Io.KnownBytes.{Appends}
 use Rattle.schema_meta.specs.Story.{story_of}
 use Rattle.stream_writer.specs.Sinks.{Sunk}
 use Rattle.values.specs.declared.causes.Cause.TheVariants as cause
-use Rattle.liveviews.specs.Inspect.{Tells, account_of, status_where}
+use Rattle.liveviews.specs.Inspect.{ReportsAccount, account_of, status_where}
 use Rattle.liveviews.specs.Recast.{Recasts}
 use Rattle.liveviews.specs.declared.files.FileFault.{FileFault}
 use Rattle.liveviews.specs.declared.files.FileFault.TheVariants as file
@@ -45,9 +45,9 @@ RecastsSource held old new (Err source.Unreadable) = new ≡ old
 RecastsSource held old new (Err (source.Refused f)) = RecastsFile held old new (Err f)
 
 -- Putting failed, and the files tell that the one to be written could not be made.
-pub record MakesNone (held : Option (List ℕ)) (old new : Sunk) (unmade : Option FileFault) (why : FileFault) :
+pub record MakesNone (held : Option (List ℕ)) (old new : Sunk) (not_created : Option FileFault) (why : FileFault) :
     Type 0 where
-  pub fault : unmade ≡ Some why
+  pub fault : not_created ≡ Some why
   pub written : ℕ
   pub recasts : RecastsFile held old new (Err (record { cause = cause.Device; written = written }))
 
@@ -55,5 +55,5 @@ pub record MakesNone (held : Option (List ℕ)) (old new : Sunk) (unmade : Optio
 pub record InspectsFile (held : Option (List ℕ)) (text : List ℕ) (status : ℕ) : Type 0 where
   pub input : List ℕ
   pub read : IsContent held input
-  pub tells : Tells (account_of input) text status
+  pub tells : ReportsAccount (account_of input) text status
   pub valid : status ≡ status_where (story_of input).end

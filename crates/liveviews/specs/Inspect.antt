@@ -57,7 +57,7 @@ abbrev pub EndsAlike : Type 0
 EndsAlike = (bytes : List ℕ) → mapped (λ last. tt) (account_of bytes).end ≡ (story_of bytes).end
 
 -- This text and this status are those of the account.
-pub record Tells (a : Account) (text : List ℕ) (status : ℕ) : Type 0 where
+pub record ReportsAccount (a : Account) (text : List ℕ) (status : ℕ) : Type 0 where
   pub last : List ℕ
   pub whole : text ≡ a.lines ++ last
   pub closes : Closes a.end last status

@@ -8,7 +8,7 @@ use Rattle.feed.specs.declared.condition.Condition.TheVariants as condition
 use Rattle.feed.specs.Shown.{Shows}
 use Rattle.feed.specs.States.{FeedState, fresh}
 use Rattle.feed.specs.Transcript.{transcript}
-use Rattle.liveviews.specs.Inspect.{Account, Tells, account_in, account_of, after_lines}
+use Rattle.liveviews.specs.Inspect.{Account, ReportsAccount, account_in, account_of, after_lines}
 use Rattle.liveviews.specs.declared.inspecting.events.Inspection.{Inspection}
 
 pub record IsFresh (i : Inspection) : Type 0 where
@@ -38,11 +38,11 @@ abbrev pub Breaks : Account → List ℕ → StreamFault → Type 0
 Breaks a text f = (f ≡ fault.Memory) ⊎ StopsAt a text f
 
 -- What came of all messages of an input: their lines were written and nothing is left, or a fault stands behind them.
-abbrev pub HasTaken : Inspection → Result (Unit {0}) StreamFault → List ℕ → Type 0
-HasTaken i (Ok u) input = IsLeft (account_of input) i []
-HasTaken i (Err f) input = Breaks (account_of input) (string_bytes i.text) f
+abbrev pub HasConsumed : Inspection → Result (Unit {0}) StreamFault → List ℕ → Type 0
+HasConsumed i (Ok u) input = IsLeft (account_of input) i []
+HasConsumed i (Err f) input = Breaks (account_of input) (string_bytes i.text) f
 
 -- the same once the line of the input's end was written
 abbrev pub HasRun : List ℕ → Result (Unit {0}) StreamFault → List ℕ → Type 0
-HasRun text (Ok u) input = Tells (account_of input) text 0
+HasRun text (Ok u) input = ReportsAccount (account_of input) text 0
 HasRun text (Err f) input = Breaks (account_of input) text f

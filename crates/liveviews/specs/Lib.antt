@@ -10,7 +10,7 @@ pub mod Files
 pub mod Source
 pub mod Check
 pub mod Program
-pub mod Kept
+pub mod Buffered
 pub mod Showing
 pub mod Brought
 pub mod Streams

@@ -70,9 +70,9 @@ IsRefusedAs kind r =
 -- A cause that the command names: memory was refused outside of recasting, or it stands in a configuration, or
 -- recasting stopped for it, with nothing put where what it wrote was thrown away.
 abbrev pub StopsFor : Option (List ℕ) → Sunk → Sunk → Option FileFault → Cause → Type 0
-StopsFor held old new unmade c =
+StopsFor held old new not_created c =
     ((c ≡ cause.Memory) × (new ≡ old)) ⊎ (RefusesFile held c × (new ≡ old)) ⊎ ((c ≡ cause.Memory)
-    × MakesNone held old new unmade file.Memory)
+    × MakesNone held old new not_created file.Memory)
     ⊎ ((written : ℕ) × RecastsFile held old new (Err (record { cause = c; written = written })))
     ⊎ (Discards held old c × (new ≡ old))
 
@@ -85,14 +85,14 @@ IsNoConfig held (refusal.Refused c) = (c ≡ cause.Memory) ⊎ RefusesFile held 
 
 -- the refusal of a command over a file that holds `held`, and what was put
 abbrev pub StopsSo : Option (List ℕ) → Sunk → Sunk → Option FileFault → Refusal → Type 0
-StopsSo held old new unmade refusal.WrongUse = new ≡ old
-StopsSo held old new unmade (refusal.CannotRead path) = new ≡ old
-StopsSo held old new unmade (refusal.CannotWrite path) = (new ≡ old) ⊎ MakesNone held old new unmade file.Unusable
-StopsSo held old new unmade (refusal.Refused c) = StopsFor held old new unmade c
+StopsSo held old new not_created refusal.WrongUse = new ≡ old
+StopsSo held old new not_created (refusal.CannotRead path) = new ≡ old
+StopsSo held old new not_created (refusal.CannotWrite path) = (new ≡ old) ⊎ MakesNone held old new not_created file.Unusable
+StopsSo held old new not_created (refusal.Refused c) = StopsFor held old new not_created c
 
 abbrev pub Ends : Option (List ℕ) → Sunk → Sunk → Option FileFault → Result ℕ Refusal → Type 0
-Ends held old new unmade (Ok n) = RecastsFile held old new (Ok n)
-Ends held old new unmade (Err r) = StopsSo held old new unmade r
+Ends held old new not_created (Ok n) = RecastsFile held old new (Ok n)
+Ends held old new not_created (Err r) = StopsSo held old new not_created r
 
 -- the refusal where a file can't be read or made: this one, which names the file, or for want of memory
 abbrev pub refusal_for : Refusal → FileFault → Refusal
@@ -106,9 +106,9 @@ refusal_after named (source.Refused f) = refusal.Refused f.cause
 
 -- A cause is named as it is, or it is the device's where the file could not be made.
 abbrev pub IsStopped : Refusal → Option FileFault → Cause → Refusal → Type 0
-IsStopped named unmade c answer =
+IsStopped named not_created c answer =
     (answer ≡ refusal.Refused c)
-    ⊎ ((why : FileFault) × (c ≡ cause.Device) × (unmade ≡ Some why) × (answer ≡ refusal_for named why))
+    ⊎ ((why : FileFault) × (c ≡ cause.Device) × (not_created ≡ Some why) × (answer ≡ refusal_for named why))
 
 abbrev pub status_of : Refusal → ℕ
 status_of refusal.WrongUse = 2

@@ -12,8 +12,8 @@ use Rattle.values.specs.declared.faults.StreamFault.{StreamFault}
 use Rattle.body_writer.specs.Heavy.{IsHeavy}
 
 -- a stream fault of this cause stands
-abbrev pub StandsAs : {X : Type 0} → Reading X → Cause → Type 0
-StandsAs m c = (f : StreamFault) × (cause_of f ≡ c) × Stands m f
+abbrev pub HasFaultOf : {X : Type 0} → Reading X → Cause → Type 0
+HasFaultOf m c = (f : StreamFault) × (cause_of f ≡ c) × Stands m f
 
 -- The rows of a batch are too many with those before, or one is too heavy.
 abbrev pub RefusesBatch : Roses Layout → List (List Datum) → ℕ → Cause → Type 0

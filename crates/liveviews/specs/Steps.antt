@@ -16,15 +16,15 @@ use Rattle.feed.specs.Shown.{FeedParts, Shows}
 use Rattle.feed.specs.States.{FeedState, after_push, gives, is_broken, retained_in}
 use Rattle.feed.specs.StoryLaw.{IsBetween, rest_story}
 use Rattle.body_writer.specs.Heavy.{IsHeavy}
-use Rattle.liveviews.specs.Taken.{AreTaken}
-use Rattle.liveviews.specs.Refused.{StandsAs}
-use Rattle.liveviews.specs.Kept.{IsKeptSo, taken_rows}
+use Rattle.liveviews.specs.Taken.{AreAccepted}
+use Rattle.liveviews.specs.Refused.{HasFaultOf}
+use Rattle.liveviews.specs.Buffered.{IsBufferedSo, buffered_rows}
 use Rattle.liveviews.specs.declared.recasting.table.Table.{Table}
-use Rattle.liveviews.specs.declared.recasting.kept_batches.KeptBatches.{KeptBatches}
+use Rattle.liveviews.specs.declared.recasting.buffered_batches.BufferedBatches.{BufferedBatches}
 
 -- the reading of the stream is these rows, and then the reading of these bytes after those of which this is kept
-abbrev pub Tells : Story → List (List Datum) → Retained → List ℕ → Type 0
-Tells s rows k bytes = s ≡ after_rows rows (rest_story k bytes)
+abbrev pub ReadsAs : Story → List (List Datum) → Retained → List ℕ → Type 0
+ReadsAs s rows k bytes = s ≡ after_rows rows (rest_story k bytes)
 
 -- One of the rows that the stream tells is too heavy for its schema.
 abbrev pub HasHeavyRow : Option (List (Rose Entry)) → List (List Datum) → Type 0
@@ -36,16 +36,16 @@ abbrev pub Refuses : Story → Cause → Type 0
 Refuses s cause.Memory = Unit {0}
 Refuses s cause.TooManyRows = max_main_rows < length s.rows
 Refuses s cause.CellTooHeavy = HasHeavyRow s.schema s.rows
-Refuses s c = StandsAs s.end c
+Refuses s c = HasFaultOf s.end c
 
 -- what was taken of the stream: no row before a schema
-abbrev pub AreTakenSo : Option (List (Rose Entry)) → List (List Datum) → Type 0
-AreTakenSo None rows = rows ≡ []
-AreTakenSo (Some fields) rows = AreTaken (layouts_of fields) rows
+abbrev pub AreConsumedSo : Option (List (Rose Entry)) → List (List Datum) → Type 0
+AreConsumedSo None rows = rows ≡ []
+AreConsumedSo (Some fields) rows = AreAccepted (layouts_of fields) rows
 
 -- all rows of a stream were taken
-abbrev pub IsTaken : Story → Type 0
-IsTaken s = AreTakenSo s.schema s.rows
+abbrev pub IsConsumed : Story → Type 0
+IsConsumed s = AreConsumedSo s.schema s.rows
 
 -- Pieces may be pushed to the feed.
 abbrev pub IsOpen : FeedParts → Type 0
@@ -59,15 +59,15 @@ pub record GoesOn (s : Story) (f : FeedParts) (rows : List (List Datum)) (rest :
   pub between : IsBetween state
   pub begun : gives state held ≡ Ok (given (length held) None)
   pub shows : Shows f (after_push state held (Ok (given (length held) None)))
-  pub taken : AreTakenSo s.schema rows
-  pub tells : Tells s rows (retained_in state) (held ++ rest)
+  pub taken : AreConsumedSo s.schema rows
+  pub tells : ReadsAs s rows (retained_in state) (held ++ rest)
 
 -- These rows were taken, and then the end mark came, before these bytes.
 pub record Ended (s : Story) (f : FeedParts) (rows : List (List Datum)) (rest : List ℕ) : Type 0 where
   pub state : FeedState
   pub shows : Shows f state
   pub marked : state.condition ≡ condition.Ended
-  pub taken : AreTakenSo s.schema rows
+  pub taken : AreConsumedSo s.schema rows
   pub tells : s ≡ after_rows rows (ends (retained_in state).known (at_end_mark rest))
   pub fields : List (Rose Entry)
   pub known : (retained_in state).known.schema ≡ Some fields
@@ -81,24 +81,24 @@ OfEachReached f piece holds =
     (s : Story) (rows : List (List Datum)) (later : List ℕ) → Reached s f rows (piece ++ later) → holds s rows later
 
 -- The same of what was taken, and what is kept beside its rows is so.
-abbrev pub HasTaken : Story → FeedParts → KeptBatches → List ℕ → Type 0
-HasTaken s f t rest = Reached s f (taken_rows t) rest × IsKeptSo s.schema t
+abbrev pub HasConsumed : Story → FeedParts → BufferedBatches → List ℕ → Type 0
+HasConsumed s f t rest = Reached s f (buffered_rows t) rest × IsBufferedSo s.schema t
 
 -- The stream has these rows and no more, and its input may end here.
 pub record IsComplete (s : Story) (f : FeedParts) (rows : List (List Datum)) : Type 0 where
   pub state : FeedState
   pub shows : Shows f state
-  pub taken : AreTakenSo s.schema rows
+  pub taken : AreConsumedSo s.schema rows
   pub tells : s ≡ after_rows rows (ends (retained_in state).known (at_input_end (retained_in state).known.schema))
 
 -- What came of all messages of an input: they were taken, or it is refused.
-abbrev pub HasTakenAll : FeedParts → KeptBatches → Result (Unit {0}) Cause → List ℕ → Type 0
-HasTakenAll f t (Ok u) input = HasTaken (story_of input) f t []
-HasTakenAll f t (Err c) input = Refuses (story_of input) c
+abbrev pub HasConsumedAll : FeedParts → BufferedBatches → Result (Unit {0}) Cause → List ℕ → Type 0
+HasConsumedAll f t (Ok u) input = HasConsumed (story_of input) f t []
+HasConsumedAll f t (Err c) input = Refuses (story_of input) c
 
 -- A whole input means this table, or is refused.
 abbrev pub IsRead : Result Table Cause → List ℕ → Type 0
 IsRead (Ok t) input =
-    Means (story_of input) t.schema.fields.items (taken_rows t.rows)
-    × AreTakenSo (story_of input).schema (story_of input).rows
+    Means (story_of input) t.schema.fields.items (buffered_rows t.rows)
+    × AreConsumedSo (story_of input).schema (story_of input).rows
 IsRead (Err c) input = Refuses (story_of input) c

@@ -11,17 +11,17 @@ use Rattle.schema_meta.specs.Rows.{row_at}
 use Rattle.body_writer.specs.Heavy.{HasHeavyRow, IsLight}
 
 -- Rows that are taken have a cell a column, of the column's layout, and are not too heavy; and they are not too many.
-pub record IsTakenRow (ls : Roses Layout) (row : List Datum) : Type 0 where
+pub record IsAcceptedRow (ls : Roses Layout) (row : List Datum) : Type 0 where
   pub held : HoldsEach ls (items_of row)
   pub light : IsLight ls row
 
-pub record AreTaken (ls : Roses Layout) (rows : List (List Datum)) : Type 0 where
+pub record AreAccepted (ls : Roses Layout) (rows : List (List Datum)) : Type 0 where
   pub few : length rows ≤ max_main_rows
-  pub each : All (IsTakenRow ls) rows
+  pub each : All (IsAcceptedRow ls) rows
 
 -- each of the first n rows can be taken
 abbrev pub AreFit : Roses Layout → List (List Datum) → ℕ → Type 0
-AreFit ls columns n = (k : ℕ) → k < n → IsTakenRow ls (row_at columns k)
+AreFit ls columns n = (k : ℕ) → k < n → IsAcceptedRow ls (row_at columns k)
 
 -- why the first n rows of a batch were not taken
 abbrev pub RefusesRows : Roses Layout → List (List Datum) → ℕ → Cause → Type 0

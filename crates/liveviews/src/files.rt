@@ -67,7 +67,7 @@ pub trait Files: Sink {
     ghost content: { Self → List ℕ → Option (List ℕ) };
 
     /// Why the file that was named last could not be made.
-    ghost unmade: { Self → Option Fault };
+    ghost not_created: { Self → Option Fault };
 
     /// All bytes of the file at `path`.
     fn read(&mut self, path: &str) -> Result<Vec<u8>, FileFault>
@@ -85,7 +85,7 @@ pub trait Files: Sink {
     /// named.
     fn create(&mut self, path: &str) -> Result<(), FileFault>
         ensures sunk { Self.sunk self.new ≡ Self.sunk self.old }
-        ensures named { OnOk result (unmade self.new ≡ None) };
+        ensures named { OnOk result (not_created self.new ≡ None) };
 
     /// Closes the file that was named last. What is put then goes to no file, until another is named.
     fn close(&mut self)
@@ -125,5 +125,5 @@ pub trait Files: Sink {
 
     /// Why the file that `create` named could not be made at its first put.
     fn fault(&self) -> Option<FileFault>
-        ensures { result ≡ unmade self.now };
+        ensures { result ≡ not_created self.now };
 }

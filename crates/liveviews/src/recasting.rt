@@ -1,7 +1,7 @@
 //! The canonical stream of a stream: of one that is held whole, in one pass, and to a new file in the place of another.
 
 mod batch;
-mod kept_batches;
+mod buffered_batches;
 pub(crate) mod new_file;
 pub(crate) mod one_pass;
 mod table;

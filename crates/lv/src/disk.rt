@@ -126,7 +126,7 @@ impl<'a, R: std::rt::Files + Input + Print + Eprint + Clock + AllocGlobal> Files
 
     ghost content = { λ _ _. None };
 
-    ghost unmade = { λ s. s.fault };
+    ghost not_created = { λ s. s.fault };
 
     type Input = Tracked<'a, R, Source<R::File, R::Reader>>;
 

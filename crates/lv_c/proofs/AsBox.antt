@@ -1,6 +1,6 @@
 -- A loose box and a full slot own what the box owns.
 use mir.Syntax.{impl, tnil, dnil}
-use denote.Signature.{Slot, plain}
+use denote.Signature.{HandleContent, plain}
 use Rattle.std_alloc.proofs.BoxSteps.Form.{Bx}
 use Rattle.std_heap.specs.contracts.Global as Heap
 use Rattle.std_heap.specs.contracts.GlobalAllocator.TheImpl.{ghosts, dict}
@@ -9,7 +9,7 @@ use mathlib.Core.List.{[]}
 use Rattle.lv_c.specs.contracts.held.Held as Held
 use Rattle.lv_c.proofs.held.Held.TheLaws as held
 use Rattle.loose.specs.contracts.Loose as Loose
-use Rattle.lv_c.specs.contracts.slot.Slot as Full
+use Rattle.lv_c.specs.contracts.slot.HandleContent as Full
 
 abbrev pub E : Bx
 E = record {
@@ -25,8 +25,8 @@ E = record {
   };
 }
 
-abbrev pub FromLoose : Slot 0
+abbrev pub FromLoose : HandleContent 0
 FromLoose = plain (λ _. Loose.the_row Held.the_row Heap.the_row ghosts)
 
-abbrev pub FromSlot : Slot 0
+abbrev pub FromSlot : HandleContent 0
 FromSlot = plain (λ _. Full.the_row)

@@ -5,9 +5,9 @@ use Rattle.std.specs.Prelude.{Option, None}
 use Rattle.values.specs.declared.causes.Cause.TheVariants as cause
 use Rattle.lv_c.specs.declared.held.Held.{Held}
 use Rattle.lv_c.specs.Behind.{Opens}
-use Rattle.lv_c.specs.Calls.{IsKept, OpenCall}
+use Rattle.lv_c.specs.Calls.{IsBoxed, OpenCall}
 
-pub opens-kept : (bytes : List ℕ) (result : ℕ) (new : Option Held) (h : Held) → Opens bytes h → IsKept h result new
+pub opens-kept : (bytes : List ℕ) (result : ℕ) (new : Option Held) (h : Held) → Opens bytes h → IsBoxed h result new
     → OpenCall None bytes result new
 opens-kept bytes result new h opens (inl kept) = inl (kept.0, (h, kept.1, opens))
 opens-kept bytes result new h opens (inr refused) = inr (cause.Memory, refused.0, inr (inr refl), refused.1)

@@ -25,13 +25,13 @@ event_number (Some event.Dictionary) = 2
 event_number (Some event.Batch) = 3
 event_number (Some event.End) = 4
 
-abbrev pub push_told : Result Pushed Fault → LvPushed
-push_told (Ok p) = record { used = p.used; cause = 0; event = event_number p.event }
-push_told (Err f) = record { used = f.used; cause = number_of f.cause; event = 0 }
+abbrev pub push_answer : Result Pushed Fault → LvPushed
+push_answer (Ok p) = record { used = p.used; cause = 0; event = event_number p.event }
+push_answer (Err f) = record { used = f.used; cause = number_of f.cause; event = 0 }
 
-abbrev pub end_told : Result (Unit {0}) Fault → ℕ
-end_told (Ok u) = 0
-end_told (Err f) = number_of f.cause
+abbrev pub end_answer : Result (Unit {0}) Fault → ℕ
+end_answer (Ok u) = 0
+end_answer (Err f) = number_of f.cause
 
 -- Streams are written to memory alone: where its sink fails, memory was refused.
 abbrev pub written_cause : Cause → Cause
@@ -39,13 +39,13 @@ written_cause cause.Device = cause.Memory
 written_cause c = c
 
 -- a view: as many bytes as were written, of the whole stream or of its beginning
-abbrev pub view_told : Result ℕ ViewFault → LvWritten
-view_told (Ok n) = record { len = n; cause = 0 }
-view_told (Err view_fault.UnknownView) = record { len = 0; cause = number_of cause.UnknownView }
-view_told (Err (view_fault.Write (write_fault.Memory n))) = record { len = n; cause = number_of cause.Memory }
-view_told (Err (view_fault.Write (write_fault.Device n))) = record { len = n; cause = number_of cause.Memory }
+abbrev pub view_answer : Result ℕ ViewFault → LvWritten
+view_answer (Ok n) = record { len = n; cause = 0 }
+view_answer (Err view_fault.UnknownView) = record { len = 0; cause = number_of cause.UnknownView }
+view_answer (Err (view_fault.Write (write_fault.Memory n))) = record { len = n; cause = number_of cause.Memory }
+view_answer (Err (view_fault.Write (write_fault.Device n))) = record { len = n; cause = number_of cause.Memory }
 
 -- the canonical stream of another: the length of the whole, and none where it was refused
-abbrev pub recast_told : Result ℕ RecastFault → LvWritten
-recast_told (Ok n) = record { len = n; cause = 0 }
-recast_told (Err f) = record { len = 0; cause = number_of (written_cause f.cause) }
+abbrev pub recast_answer : Result ℕ RecastFault → LvWritten
+recast_answer (Ok n) = record { len = n; cause = 0 }
+recast_answer (Err f) = record { len = 0; cause = number_of (written_cause f.cause) }

@@ -37,8 +37,8 @@ use Rattle.session.specs.declared.calls.ViewFault.TheVariants as view_fault
 use Rattle.lv_c.specs.declared.held.Held.{Held}
 
 -- the bytes of the stream that was written last
-abbrev pub kept_bytes : Held → List ℕ
-kept_bytes h = h.output.bytes.items
+abbrev pub last_stream : Held → List ℕ
+last_stream h = h.output.bytes.items
 
 -- The session shows the start of the configuration that these bytes mean, and no view was written.
 pub record Opens (bytes : List ℕ) (h : Held) : Type 0 where
@@ -46,7 +46,7 @@ pub record Opens (bytes : List ℕ) (h : Held) : Type 0 where
   pub means : text_means bytes ≡ Ok config
   pub shows : Shows h.session (start config)
   pub declared : config_of h.session ≡ config
-  pub output : kept_bytes h ≡ []
+  pub output : last_stream h ≡ []
 
 -- These bytes are refused as a configuration: they aren't UTF-8, or a fault stands in the text, or memory ran out.
 abbrev pub RefusesConfig : List ℕ → Cause → Type 0
@@ -82,12 +82,12 @@ pub record Undoes (old : Held) (answer : Result (Unit {0}) Fault) (new : Held) :
 
 -- A write of the view of a name: what is kept then is what went out, the whole stream or a beginning of it, and nothing
 -- where there is no such view. A name that isn't UTF-8 is that of no view.
-pub record WritesKept (old : Held) (view : List ℕ) (answer : Result ℕ ViewFault) (new : Held) : Type 0 where
+pub record WritesLast (old : Held) (view : List ℕ) (answer : Result ℕ ViewFault) (new : Held) : Type 0 where
   pub named : IsUtf8 view → IsStep old.session
       (λ s t. WriteStep (config_of old.session) s view (sunk_of [] 0) answer
-      (sunk_of (kept_bytes new) new.output.failed) × (t ≡ s)) new.session
+      (sunk_of (last_stream new) new.output.failed) × (t ≡ s)) new.session
   pub unnamed : ¬ (IsUtf8 view)
-      → (answer ≡ Err view_fault.UnknownView) × (new.session ≡ old.session) × (kept_bytes new ≡ [])
+      → (answer ≡ Err view_fault.UnknownView) × (new.session ≡ old.session) × (last_stream new ≡ [])
   pub config : config_of new.session ≡ config_of old.session
   pub stale : IsUtf8 view → OnOk answer (new.session.tables.stale ≡ slice_set old.session.tables.stale
       (place_of view (map (λ v. v.name) old.session.tables.views)) false)

@@ -21,8 +21,8 @@ use Rattle.liveviews.specs.declared.recasting.whole.RecastFault.{RecastFault}
 use Rattle.lv_c.specs.declared.answers.LvPushed.{LvPushed}
 use Rattle.lv_c.specs.declared.answers.LvWritten.{LvWritten}
 use Rattle.lv_c.specs.declared.held.Held.{Held}
-use Rattle.lv_c.specs.Answers.{end_told, not_open, push_told, recast_told, view_told}
-use Rattle.lv_c.specs.Behind.{Finishes, Opens, Pushes, RefusesConfig, Undoes, WritesKept, kept_bytes}
+use Rattle.lv_c.specs.Answers.{end_answer, not_open, push_answer, recast_answer, view_answer}
+use Rattle.lv_c.specs.Behind.{Finishes, Opens, Pushes, RefusesConfig, Undoes, WritesLast, last_stream}
 use Rattle.lv_c.specs.Copies.{CopiesIf, CopiesTo}
 
 -- A session is opened behind a handle that isn't open, or the bytes are refused. One that is open stays as it is.
@@ -38,19 +38,19 @@ unopened_push = record { used = 0; cause = not_open; event = 0 }
 abbrev pub PushCall : Option Held → List ℕ → List ℕ → LvPushed → Option Held → Type 0
 PushCall None feed piece result new = (result ≡ unopened_push) × (new ≡ None)
 PushCall (Some old) feed piece result new =
-    (h : Held) × (new ≡ Some h) × (answer : Result Pushed Fault) × (result ≡ push_told answer)
+    (h : Held) × (new ≡ Some h) × (answer : Result Pushed Fault) × (result ≡ push_answer answer)
     × Pushes old feed piece answer h
 
 abbrev pub FinishCall : Option Held → List ℕ → ℕ → Option Held → Type 0
 FinishCall None feed result new = (result ≡ not_open) × (new ≡ None)
 FinishCall (Some old) feed result new =
-    (h : Held) × (new ≡ Some h) × (answer : Result (Unit {0}) Fault) × (result ≡ end_told answer)
+    (h : Held) × (new ≡ Some h) × (answer : Result (Unit {0}) Fault) × (result ≡ end_answer answer)
     × Finishes old feed answer h
 
 abbrev pub UndoCall : Option Held → ℕ → Option Held → Type 0
 UndoCall None result new = (result ≡ not_open) × (new ≡ None)
 UndoCall (Some old) result new =
-    (h : Held) × (new ≡ Some h) × (answer : Result (Unit {0}) Fault) × (result ≡ end_told answer)
+    (h : Held) × (new ≡ Some h) × (answer : Result (Unit {0}) Fault) × (result ≡ end_answer answer)
     × Undoes old answer h
 
 abbrev pub unopened_write : LvWritten
@@ -59,12 +59,12 @@ unopened_write = record { len = 0; cause = not_open }
 abbrev pub WriteCall : Option Held → List ℕ → LvWritten → Option Held → Type 0
 WriteCall None view result new = (result ≡ unopened_write) × (new ≡ None)
 WriteCall (Some old) view result new =
-    (h : Held) × (new ≡ Some h) × (answer : Result ℕ ViewFault) × (result ≡ view_told answer)
-    × WritesKept old view answer h
+    (h : Held) × (new ≡ Some h) × (answer : Result ℕ ViewFault) × (result ≡ view_answer answer)
+    × WritesLast old view answer h
 
 abbrev pub CopyCall : Option Held → ℕ → List ℕ → ℕ → List ℕ → Type 0
 CopyCall None from old result new = (result ≡ 0) × (new ≡ old)
-CopyCall (Some h) from old result new = CopiesTo (kept_bytes h) from old result new
+CopyCall (Some h) from old result new = CopiesTo (last_stream h) from old result new
 
 -- the number of live rows of the main table, in whatever state the session shows
 abbrev pub LiveRowsCall : Option Held → ℕ → Type 0
@@ -82,8 +82,8 @@ VisitsCall None result = result ≡ 0
 VisitsCall (Some h) result = result ≡ min (store_at h.session.tables.stores 0).visits (2 ^ 64 - 1)
 
 -- A session is put behind a handle, or memory is refused for its box.
-abbrev pub IsKept : Held → ℕ → Option Held → Type 0
-IsKept h result new = ((result ≡ 0) × (new ≡ Some h)) ⊎ ((result ≡ number_of cause.Memory) × (new ≡ None))
+abbrev pub IsBoxed : Held → ℕ → Option Held → Type 0
+IsBoxed h result new = ((result ≡ 0) × (new ≡ Some h)) ⊎ ((result ≡ number_of cause.Memory) × (new ≡ None))
 
 -- A recast to memory: `kept` is what went out. On success that is the whole canonical stream, and the buffer has the
 -- beginning of it that fits. Otherwise the buffer is as it was.
@@ -93,13 +93,13 @@ pub record RecastCall (input old : List ℕ) (result : LvWritten) (new : List �
   pub failures : ℕ
   pub recasts : Recasts (sunk_of [] 0) (sunk_of kept failures) answer (story_of input)
   pub accepted : OnOk answer (IsTaken (story_of input))
-  pub told : result ≡ recast_told answer
+  pub told : result ≡ recast_answer answer
   pub buffer : CopiesIf answer kept old new
 
 -- Of a configuration that is accepted no place is told, and the buffer is as it was. Otherwise the buffer has the text
 -- of some place, as much of it as fits, and the answer is the length of that text, or nothing is told for want of
 -- memory.
-pub record TellsPlace (old : List ℕ) (result : ℕ) (new : List ℕ) : Type 0 where
+pub record ReportsPlace (old : List ℕ) (result : ℕ) (new : List ℕ) : Type 0 where
   pub text : List ℕ
   pub len : result ≡ length text
   pub copied : ℕ
@@ -107,4 +107,4 @@ pub record TellsPlace (old : List ℕ) (result : ℕ) (new : List ℕ) : Type 0 
 
 abbrev pub FindFaultCall : List ℕ → List ℕ → ℕ → List ℕ → Type 0
 FindFaultCall bytes old result new =
-    ((result ≡ 0) × (new ≡ old)) ⊎ (IsErr (text_means bytes) × TellsPlace old result new)
+    ((result ≡ 0) × (new ≡ old)) ⊎ (IsErr (text_means bytes) × ReportsPlace old result new)

@@ -9,9 +9,9 @@ use Rattle.std.specs.Global.{Global}
 use Rattle.std_heap.specs.contracts.GlobalAllocator.TheImpl.{ghosts}
 use Rattle.lv_c.specs.contracts.held.Held.{the_row}
 
-abbrev pub slot_owns : Global → Ptr → Option the_row.Denot → Fml
-slot_owns alloc at None = ftrue
-slot_owns alloc at (Some held) = box_owns (ghosts.dealloc_token alloc) the_row at held
+abbrev pub content_owns : Global → Ptr → Option the_row.Denot → Fml
+content_owns alloc at None = ftrue
+content_owns alloc at (Some held) = box_owns (ghosts.dealloc_token alloc) the_row at held
 
 abbrev pub held_coded : Coded (Option the_row.Denot)
 held_coded = coded_option the_row.coded

@@ -1,4 +1,4 @@
-pub mod Slot
+pub mod HandleContent
 pub mod Answers
 pub mod Behind
 pub mod Copies

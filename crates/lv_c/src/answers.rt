@@ -1,7 +1,7 @@
 //! The answers of calls, as C reads them.
 
 ghost use Rattle.std.specs.Prelude.{◌≡◌};
-ghost use Rattle.lv_c.specs.Answers.{end_told, event_number, push_told, recast_told, view_told, written_cause};
+ghost use Rattle.lv_c.specs.Answers.{end_answer, event_number, push_answer, recast_answer, view_answer, written_cause};
 
 use liveviews::RecastFault;
 use session::{Event, Fault, Pushed, ViewFault};
@@ -41,8 +41,8 @@ fn event_number(event: Option<Event>) -> u8
     }
 }
 
-pub fn tell_push(answer: Result<Pushed, Fault>) -> LvPushed
-    ensures { result ≡ push_told answer }
+pub fn answer_push(answer: Result<Pushed, Fault>) -> LvPushed
+    ensures { result ≡ push_answer answer }
 {
     match answer {
         Ok(Pushed { used, event }) => LvPushed {
@@ -59,8 +59,8 @@ pub fn tell_push(answer: Result<Pushed, Fault>) -> LvPushed
 }
 
 /// The cause of a refusal, or 0.
-pub fn tell_end(answer: Result<(), Fault>) -> u8
-    ensures { result ≡ end_told answer }
+pub fn answer_end(answer: Result<(), Fault>) -> u8
+    ensures { result ≡ end_answer answer }
 {
     match answer {
         Ok(()) => 0,
@@ -78,8 +78,8 @@ fn written_cause(cause: Cause) -> Cause
     }
 }
 
-pub fn tell_view(answer: Result<u64, ViewFault>) -> LvWritten
-    ensures { result ≡ view_told answer }
+pub fn answer_view(answer: Result<u64, ViewFault>) -> LvWritten
+    ensures { result ≡ view_answer answer }
 {
     match answer {
         Ok(len) => LvWritten { len, cause: 0 },
@@ -98,8 +98,8 @@ pub fn tell_view(answer: Result<u64, ViewFault>) -> LvWritten
     }
 }
 
-pub fn tell_recast(answer: Result<u64, RecastFault>) -> LvWritten
-    ensures { result ≡ recast_told answer }
+pub fn answer_recast(answer: Result<u64, RecastFault>) -> LvWritten
+    ensures { result ≡ recast_answer answer }
 {
     match answer {
         Ok(len) => LvWritten { len, cause: 0 },

@@ -4,7 +4,7 @@ ghost use Rattle.std.specs.Prelude.{◌≡◌, None};
 ghost use Rattle.lv_c.specs.Calls.{
   CopyCall,
   FinishCall,
-  IsKept,
+  IsBoxed,
   LiveRowsCall,
   OpenCall,
   PushCall,
@@ -14,7 +14,7 @@ ghost use Rattle.lv_c.specs.Calls.{
   WriteCall,
 };
 
-use crate::answers::{LvPushed, LvWritten, NOT_OPEN, tell_end, tell_push, tell_view};
+use crate::answers::{LvPushed, LvWritten, NOT_OPEN, answer_end, answer_push, answer_view};
 use crate::copying::copy_from;
 use crate::handle::{Handle, put, take};
 use crate::held::Held;
@@ -24,7 +24,7 @@ use values::Cause;
 /// Puts a session behind an empty handle, if memory is there for its box.
 fn keep(alloc: Global, handle: &mut Handle, held: Held) -> u8
     requires { handle.old.slot.value ≡ None }
-    ensures { IsKept held result handle.new.slot.value }
+    ensures { IsBoxed held result handle.new.slot.value }
 {
     match Box::new(alloc, held) {
         Ok(held) => {
@@ -64,7 +64,7 @@ pub extern "C" fn lv_push(alloc: Global, handle: &mut Handle, feed: &[u8], piece
     };
     let answer = held.push(feed, piece);
     put(handle, held);
-    tell_push(answer)
+    answer_push(answer)
 }
 
 /// Ends the input of a feed, as `Session::finish` does.
@@ -77,7 +77,7 @@ pub extern "C" fn lv_finish(alloc: Global, handle: &mut Handle, feed: &[u8]) -> 
     };
     let answer = held.finish(feed);
     put(handle, held);
-    tell_end(answer)
+    answer_end(answer)
 }
 
 /// Undoes the latest accepted edit, as `Session::undo` does.
@@ -90,7 +90,7 @@ pub extern "C" fn lv_undo(alloc: Global, handle: &mut Handle) -> u8
     };
     let answer = held.undo();
     put(handle, held);
-    tell_end(answer)
+    answer_end(answer)
 }
 
 /// Writes the stream of a view to memory, as `Session::write_view` does. `lv_copy` reads it there.
@@ -106,7 +106,7 @@ pub extern "C" fn lv_write(alloc: Global, handle: &mut Handle, view: &[u8]) -> L
     };
     let answer = held.write(alloc, view);
     put(handle, held);
-    tell_view(answer)
+    answer_view(answer)
 }
 
 /// Copies bytes of the stream that was written last, from place `from` on, and returns how many: as many as there are

@@ -3,7 +3,7 @@
 ghost use Rattle.std.specs.Prelude.{◌≡◌, Option, Some, None, IsSome, MatchOption, true, false, is_some};
 
 use crate::held::Held;
-use crate::slot::Slot;
+use crate::slot::HandleContent;
 use loose::Loose;
 use std::alloc::Global;
 use std::mem;
@@ -11,7 +11,7 @@ use std::mem;
 /// What a program keeps of a session. C sets it to zeros before the first call, and changes nothing in it.
 #[repr(C)]
 pub struct Handle {
-    pub(crate) slot: Slot,
+    pub(crate) slot: HandleContent,
     pub(crate) is_open: bool,
     ghost agrees: { is_some slot.value ≡ is_open },
 }
@@ -20,7 +20,7 @@ pub fn empty(alloc: Global) -> Handle
     ensures { result.slot.value ≡ None }
 {
     Handle {
-        slot: Slot::empty(alloc),
+        slot: HandleContent::empty(alloc),
         is_open: false,
     }
 }
@@ -29,7 +29,7 @@ fn full(held: Box<Held>) -> Handle
     ensures { result.slot.value ≡ Some held.value }
 {
     Handle {
-        slot: Slot::of(Loose::of(held)),
+        slot: HandleContent::of(Loose::of(held)),
         is_open: true,
     }
 }

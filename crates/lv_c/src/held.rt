@@ -1,7 +1,7 @@
 //! What stands behind an open handle.
 
 ghost use Rattle.std.specs.Prelude.{◌≡◌, [], IfErr, IfOk};
-ghost use Rattle.lv_c.specs.Behind.{Finishes, Opens, Pushes, RefusesConfig, Undoes, WritesKept};
+ghost use Rattle.lv_c.specs.Behind.{Finishes, Opens, Pushes, RefusesConfig, Undoes, WritesLast};
 
 use session::{Fault, Pushed, Session, ViewFault};
 use std::alloc::Global;
@@ -65,7 +65,7 @@ impl Held {
 
     /// Writes a view, and keeps what went out in place of the stream that was written before.
     pub fn write(&mut self, alloc: Global, view: &[u8]) -> Result<u64, ViewFault>
-        ensures { WritesKept self.old view.now result self.new }
+        ensures { WritesLast self.old view.now result self.new }
     {
         self.output = MemorySink::new(alloc);
         let Ok(view) = str::from_utf8(view) else {

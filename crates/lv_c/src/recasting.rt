@@ -2,7 +2,7 @@
 
 ghost use Rattle.lv_c.specs.Calls.{RecastCall};
 
-use crate::answers::{LvWritten, tell_recast};
+use crate::answers::{LvWritten, answer_recast};
 use crate::copying::copy_from;
 use liveviews::recast;
 use std::alloc::Global;
@@ -19,5 +19,5 @@ pub extern "C" fn lv_recast(alloc: Global, input: &[u8], buffer: &mut [u8]) -> L
     if answer.is_ok() {
         copy_from(output.bytes(), 0, buffer);
     }
-    tell_recast(answer)
+    answer_recast(answer)
 }

@@ -2,7 +2,7 @@
 
 ghost use Rattle.std.specs.Prelude.{◌≡◌, Option, Some, None, IsSome};
 ghost use Rattle.lv_c.specs.declared.held.Held.{Held as HeldValue};
-ghost use Rattle.lv_c.specs.Slot.{slot_owns, held_coded};
+ghost use Rattle.lv_c.specs.HandleContent.{content_owns, held_coded};
 
 use crate::held::Held;
 use loose::Loose;
@@ -13,31 +13,31 @@ use std::ptr::null_mut;
 /// A box as the pointer to it, or none. The pointer is without a type, since one to a `Held` can't cross to C. Its
 /// functions are proved by hand, and only they make or read the pointer.
 #[repr(C)]
-pub struct Slot {
+pub struct HandleContent {
     at: *mut (),
     alloc: Global,
     pub ghost value: { Option HeldValue } by { held_coded },
 }
 
-impl Model for Slot {
-    ghost also_owns = { λ s. slot_owns s.alloc s.at s.value };
+impl Model for HandleContent {
+    ghost also_owns = { λ s. content_owns s.alloc s.at s.value };
 }
 
-impl Slot {
-    pub fn empty(alloc: Global) -> Slot
+impl HandleContent {
+    pub fn empty(alloc: Global) -> HandleContent
         ensures { result.value ≡ None }
     {
-        Slot {
+        HandleContent {
             at: null_mut(),
             alloc,
         }
     }
 
-    pub fn of(loose: Loose<Held, Global>) -> Slot
+    pub fn of(loose: Loose<Held, Global>) -> HandleContent
         ensures { result.value ≡ Some loose.value }
     {
         let Loose { at, alloc } = loose;
-        Slot {
+        HandleContent {
             at: at as *mut (),
             alloc,
         }
@@ -47,7 +47,7 @@ impl Slot {
         requires { IsSome self.value }
         ensures { self.value ≡ Some result.value }
     {
-        let Slot { at, alloc } = self;
+        let HandleContent { at, alloc } = self;
         Loose {
             at: at as *mut Held,
             alloc,
@@ -58,6 +58,6 @@ impl Slot {
     pub fn forget(self)
         requires { self.value ≡ None }
     {
-        let Slot { at: _, alloc: _ } = self;
+        let HandleContent { at: _, alloc: _ } = self;
     }
 }

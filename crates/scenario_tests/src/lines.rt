@@ -77,7 +77,7 @@ impl<'a> Files for Desk<'a> {
 
     ghost content = { λ _ _. None };
 
-    ghost unmade = { λ _. None };
+    ghost not_created = { λ _. None };
 
     type Input = Held<'a>;
 

@@ -129,7 +129,7 @@ impl<'a> Files for Shelf<'a> {
 
     ghost content = { λ s path. shelved path s.input.now };
 
-    ghost unmade = { λ s. s.fault };
+    ghost not_created = { λ s. s.fault };
 
     type Input = Bites<'a>;
 

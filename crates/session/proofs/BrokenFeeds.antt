@@ -71,7 +71,7 @@ use Rattle.session.specs.Cuts.{
   EndsWell,
   IsDone,
   IsFault,
-  told_at,
+  transcript_at,
 }
 use Rattle.session.proofs.ReplayedFeeds.{get-other, get-set, same_by}
 use Rattle.session.proofs.ReplayedRuns.{faults-are-told, faults-break, finish-is-told, push-faults-are-told}
@@ -350,7 +350,7 @@ pub breaks-in-both : FeedLaws → BreaksInBoth
 breaks-in-both laws conf streams steps others replies answers sinks after sinks_too after_too new other run run_too k
     plan c
     d is there there_too whole asks broke =
-    by_ending (told_at conf streams k).end refl (l.fell refl (ap (λ x. broken x) (sym same) ∙ broke)) where
+    by_ending (transcript_at conf streams k).end refl (l.fell refl (ap (λ x. broken x) (sym same) ∙ broke)) where
       l : Leads conf steps replies new k (opened (tables_of conf) plan)
       l = leads conf steps replies sinks after (start conf) new k (opened (tables_of conf) plan)
           (first-channel conf k plan is)
@@ -374,7 +374,7 @@ breaks-in-both laws conf streams steps others replies answers sinks after sinks_
           (faults-are-told laws conf streams steps replies sinks new after run k f h))
       by_end f h (inr fallen) = ap (λ x. broken x) (sym same_too) ∙ fallen
 
-      by_ending : (e : Reading FeedState) → (told_at conf streams k).end ≡ e
+      by_ending : (e : Reading FeedState) → (transcript_at conf streams k).end ≡ e
           → ((f : StreamFault) × BrokeByPush conf k f steps replies)
           ⊎ (AsksEnd conf k steps × ((f : StreamFault) × Broke conf k f steps replies))
           → broken d ≡ true

@@ -13,7 +13,7 @@ use Rattle.view_lang.specs.Config.{Config, FeedConfig, tables_of}
 use Rattle.session.specs.Steps.{Channel, Run, State, opened, start}
 use Rattle.session.specs.declared.calls.Reply.{Reply}
 use Rattle.session.specs.declared.calls.Step.{Step}
-use Rattle.session.specs.Cuts.{Breaks, BreaksByPush, Broke, BrokeByPush, EndedWell, EndsWell, FaultsAreTold, FaultsBreak, FinishIsTold, IsAmple, IsOfferedWhole, IsRunOn, Left, MayBreak, Offers, PushFaultsAreTold, RunIsReplayed, SameRuns, Took, left_after, left_at_end, order, replay, replayed, role_at, role_by, told_at, told_of}
+use Rattle.session.specs.Cuts.{Breaks, BreaksByPush, Broke, BrokeByPush, EndedWell, EndsWell, FaultsAreReported, FaultsBreak, FinishIsReported, IsAmple, IsOfferedWhole, IsRunOn, Left, MayBreak, Offers, PushFaultsAreReported, RunIsReplayed, SameRuns, Took, left_after, left_at_end, order, replay, replayed, role_at, role_by, transcript_at, transcript_of}
 use Rattle.session.proofs.FedBytes.{FeedLaws, tells-none}
 use Rattle.session.proofs.ReplayedFeeds.{appends-none, Heir, Stand, Follows, Goes, going, stuck, over}
 use Rattle.session.proofs.ReplayedSteps.{step-goes}
@@ -89,14 +89,14 @@ run-goes laws conf (st ∷ steps) [] ends messages streams bytes before sinks s 
     elim run [ ]
 
 -- at first
-follows-start : (conf : Config) (streams : ℕ → List ℕ) → Follows (role_at conf) (λ k. (told_at conf streams k).end)
-    (λ k. (told_at conf streams k).events) streams (start conf).channels
+follows-start : (conf : Config) (streams : ℕ → List ℕ) → Follows (role_at conf) (λ k. (transcript_at conf streams k).end)
+    (λ k. (transcript_at conf streams k).events) streams (start conf).channels
 follows-start conf streams k c is = by_plan (slice_get conf.feeds k) refl
     (sym (slice_get-map (opened (tables_of conf)) conf.feeds k) ∙ is) where
       by_plan : (o : Option FeedConfig) → slice_get conf.feeds k ≡ o → option_map (opened (tables_of conf)) o ≡ Some c
-          → (c.role ≡ role_by o) × ((told_of conf o (streams k)).events ≡ (transcript c.fed (streams k)).events) × Heir
-          (told_of conf o (streams k)).end c.fed (streams k)
-          × Stand (told_of conf o (streams k)).end c.fed (streams k)
+          → (c.role ≡ role_by o) × ((transcript_of conf o (streams k)).events ≡ (transcript c.fed (streams k)).events) × Heir
+          (transcript_of conf o (streams k)).end c.fed (streams k)
+          × Stand (transcript_of conf o (streams k)).end c.fed (streams k)
       by_plan None there h = absurd (none-some c h)
       by_plan (Some plan) there h =
           let same : opened (tables_of conf) plan ≡ c = same_Some (opened (tables_of conf) plan) c h in (
@@ -113,28 +113,28 @@ run-replayed : (laws : FeedLaws) (conf : Config) (streams : ℕ → List ℕ) (s
     (sinks : List Sunk) (new : State) (after : List Sunk)
     → IsRunOn conf streams steps replies sinks new after
     → Replayed conf (replayed conf streams (order conf steps replies)) new sinks after
-    (λ k. (told_at conf streams k).end) streams steps replies
+    (λ k. (transcript_at conf streams k).end) streams steps replies
 run-replayed laws conf streams steps replies sinks new after run =
-    run-goes laws conf steps replies (λ k. (told_at conf streams k).end)
-    (λ k. (told_at conf streams k).events) streams (λ n. []) sinks sinks (start conf) new after
+    run-goes laws conf steps replies (λ k. (transcript_at conf streams k).end)
+    (λ k. (transcript_at conf streams k).events) streams (λ n. []) sinks sinks (start conf) new after
     (follows-start conf streams) (took-nothing sinks) run.ample run.offers run.runs
 
 pub run-is-replayed : FeedLaws → RunIsReplayed
 run-is-replayed laws conf streams steps replies sinks new after run =
     let r : Replayed conf (replayed conf streams (order conf steps replies)) new sinks after
-    (λ k. (told_at conf streams k).end) streams steps replies = run-replayed laws conf streams steps replies sinks new
+    (λ k. (transcript_at conf streams k).end) streams steps replies = run-replayed laws conf streams steps replies sinks new
     after run in
     record { past = r.past; took = r.took }
 
 pub same-runs : FeedLaws → SameRuns
 same-runs laws conf streams steps others replies answers sinks after sinks_too after_too new other run run_too same =
     let r : Replayed conf (replayed conf streams (order conf steps replies)) new sinks after
-    (λ k. (told_at conf streams k).end) streams steps replies = run-replayed laws conf streams steps replies sinks new
+    (λ k. (transcript_at conf streams k).end) streams steps replies = run-replayed laws conf streams steps replies sinks new
     after run in
     let r_too : Replayed conf (replayed conf streams (order conf steps replies)) other sinks_too after_too
-    (λ k. (told_at conf streams k).end) streams others answers =
+    (λ k. (transcript_at conf streams k).end) streams others answers =
     subst (λ marks. Replayed conf (replayed conf streams marks) other sinks_too after_too
-    (λ k. (told_at conf streams k).end) streams others answers) (sym same)
+    (λ k. (transcript_at conf streams k).end) streams others answers) (sym same)
     (run-replayed laws conf streams others answers sinks_too other after_too run_too) in
     record {
       left = replayed conf streams (order conf steps replies);
@@ -142,10 +142,10 @@ same-runs laws conf streams steps others replies answers sinks after sinks_too a
       leaves_too = record { past = r_too.past; took = r_too.took };
     }
 
-pub faults-are-told : FeedLaws → FaultsAreTold
+pub faults-are-told : FeedLaws → FaultsAreReported
 faults-are-told laws conf streams steps replies sinks new after run k f h =
     let r : Replayed conf (replayed conf streams (order conf steps replies)) new sinks after
-    (λ k. (told_at conf streams k).end) streams steps replies =
+    (λ k. (transcript_at conf streams k).end) streams steps replies =
     run-replayed laws conf streams steps replies sinks new after run in
     r.faults k f h
 
@@ -154,7 +154,7 @@ ok-err s fs e = absurd (cc)
 
 pub faults-break : FeedLaws → FaultsBreak
 faults-break laws conf streams steps replies sinks new after run k c fs there is whole = by_offered whole where
-  never : Stand (told_at conf streams k).end c.fed (left_at_end conf streams steps replies k)
+  never : Stand (transcript_at conf streams k).end c.fed (left_at_end conf streams steps replies k)
       → left_at_end conf streams steps replies k ≡ [] → is_broken c.fed.condition ≡ true
   never (going e) none =
       absurd (ok-err c.fed fs (sym (ap (λ x. x.end) (tells-none laws c.fed)) ∙ ap (λ ys. (transcript c.fed ys).end)
@@ -165,21 +165,21 @@ faults-break laws conf streams steps replies sinks new after run k c fs there is
   by_offered : IsOfferedWhole (left_at_end conf streams steps replies k) c → is_broken c.fed.condition ≡ true
   by_offered (inl none) =
       let r : Replayed conf (replayed conf streams (order conf steps replies)) new sinks after
-      (λ k. (told_at conf streams k).end) streams steps replies =
+      (λ k. (transcript_at conf streams k).end) streams steps replies =
       run-replayed laws conf streams steps replies sinks new after run in
       never (r.stands k c there) none
   by_offered (inr broken) = broken
 
-pub finish-is-told : FeedLaws → FinishIsTold
+pub finish-is-told : FeedLaws → FinishIsReported
 finish-is-told laws conf streams steps replies sinks new after run k c h m =
     let r : Replayed conf (replayed conf streams (order conf steps replies)) new sinks after
-    (λ j. (told_at conf streams j).end) streams steps replies =
+    (λ j. (transcript_at conf streams j).end) streams steps replies =
     run-replayed laws conf streams steps replies sinks new after run in
     r.well k h c m
 
-pub push-faults-are-told : FeedLaws → PushFaultsAreTold
+pub push-faults-are-told : FeedLaws → PushFaultsAreReported
 push-faults-are-told laws conf streams steps replies sinks new after run k c h =
     let r : Replayed conf (replayed conf streams (order conf steps replies)) new sinks after
-    (λ j. (told_at conf streams j).end) streams steps replies =
+    (λ j. (transcript_at conf streams j).end) streams steps replies =
     run-replayed laws conf streams steps replies sinks new after run in
     r.pushes k c h

@@ -65,14 +65,14 @@ use Rattle.session.specs.declared.calls.ViewFault.TheVariants as view_fault
 
 -- What bytes tell
 
-abbrev pub told_of : Config → Option FeedConfig → List ℕ → Transcript
-told_of conf None bytes = no_events (Ok (fresh None))
-told_of conf (Some plan) bytes = transcript (fresh (Some (feed_columns (tables_of conf) plan.role))) bytes
+abbrev pub transcript_of : Config → Option FeedConfig → List ℕ → Transcript
+transcript_of conf None bytes = no_events (Ok (fresh None))
+transcript_of conf (Some plan) bytes = transcript (fresh (Some (feed_columns (tables_of conf) plan.role))) bytes
 
 -- what the stream of a feed tells, from its beginning: its messages, and then the faults that stand, or where the feed
 -- is once all is consumed
-abbrev pub told_at : Config → (ℕ → List ℕ) → ℕ → Transcript
-told_at conf streams k = told_of conf (slice_get conf.feeds k) (streams k)
+abbrev pub transcript_at : Config → (ℕ → List ℕ) → ℕ → Transcript
+transcript_at conf streams k = transcript_of conf (slice_get conf.feeds k) (streams k)
 
 -- A feed whose bytes tell this may break by this fault: by a push, or by its finish where all its bytes are consumed.
 abbrev pub MayBreak : Reading FeedState → StreamFault → Type 0
@@ -250,7 +250,7 @@ pub record IsRunOn (conf : Config) (streams : ℕ → List ℕ) (steps : List St
   pub offers : Offers conf streams steps replies
 
 abbrev pub replayed : Config → (ℕ → List ℕ) → List Mark → Left
-replayed conf streams marks = replay conf marks (λ k. (told_at conf streams k).events) nothing_left
+replayed conf streams marks = replay conf marks (λ k. (transcript_at conf streams k).events) nothing_left
 
 -- The laws
 
@@ -295,13 +295,13 @@ Broke conf k f (s ∷ ss) [] = ⊥
 Broke conf k f (s ∷ ss) (r ∷ rs) = Breaks conf k f s r ⊎ Broke conf k f ss rs
 
 -- The fault by which a feed breaks is one of a set that its joined bytes tell.
-abbrev pub FaultsAreTold : Type 0
-FaultsAreTold =
+abbrev pub FaultsAreReported : Type 0
+FaultsAreReported =
     (conf : Config) (streams : ℕ → List ℕ) (steps : List Step) (replies : List Reply) (sinks : List Sunk) (new : State)
     (after : List Sunk)
     → IsRunOn conf streams steps replies sinks new after
     → (k : ℕ) (f : StreamFault) → Broke conf k f steps replies
-    → MayBreak (told_at conf streams k).end f
+    → MayBreak (transcript_at conf streams k).end f
 
 -- what was never taken
 unfoldable pub left_at_end : Config → (ℕ → List ℕ) → List Step → List Reply → ℕ → List ℕ
@@ -320,7 +320,7 @@ FaultsBreak =
     (after : List Sunk)
     → IsRunOn conf streams steps replies sinks new after
     → (k : ℕ) (c : Channel) (fs : Faults) → slice_get new.channels k ≡ Some c
-    → (told_at conf streams k).end ≡ Err fs
+    → (transcript_at conf streams k).end ≡ Err fs
     → IsOfferedWhole (left_at_end conf streams steps replies k) c
     → is_broken c.fed.condition ≡ true
 
@@ -339,13 +339,13 @@ EndedWell conf k (s ∷ ss) [] = ⊥
 EndedWell conf k (s ∷ ss) (r ∷ rs) = EndsWell conf k s r ⊎ EndedWell conf k ss rs
 
 -- A feed is finished only where no fault can break it, however it was cut.
-abbrev pub FinishIsTold : Type 0
-FinishIsTold =
+abbrev pub FinishIsReported : Type 0
+FinishIsReported =
     (conf : Config) (streams : ℕ → List ℕ) (steps : List Step) (replies : List Reply) (sinks : List Sunk) (new : State)
     (after : List Sunk)
     → IsRunOn conf streams steps replies sinks new after
     → (k : ℕ) (f : StreamFault) → EndedWell conf k steps replies
-    → MayBreak (told_at conf streams k).end f → ⊥
+    → MayBreak (transcript_at conf streams k).end f → ⊥
 
 -- a push to the feed k answered this fault
 abbrev pub BreaksByPush : Config → ℕ → StreamFault → Step → Reply → Type 0
@@ -358,13 +358,13 @@ BrokeByPush conf k f (s ∷ ss) [] = ⊥
 BrokeByPush conf k f (s ∷ ss) (r ∷ rs) = BreaksByPush conf k f s r ⊎ BrokeByPush conf k f ss rs
 
 -- A push breaks a feed only where its joined bytes tell a fault, by one of those.
-abbrev pub PushFaultsAreTold : Type 0
-PushFaultsAreTold =
+abbrev pub PushFaultsAreReported : Type 0
+PushFaultsAreReported =
     (conf : Config) (streams : ℕ → List ℕ) (steps : List Step) (replies : List Reply) (sinks : List Sunk) (new : State)
     (after : List Sunk)
     → IsRunOn conf streams steps replies sinks new after
     → (k : ℕ) (f : StreamFault) → BrokeByPush conf k f steps replies
-    → Stands (told_at conf streams k).end f
+    → Stands (transcript_at conf streams k).end f
 
 -- the feed k is asked to finish
 abbrev pub AsksNow : Config → ℕ → Step → Type 0

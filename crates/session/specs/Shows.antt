@@ -76,6 +76,10 @@ pub record SessionParts : Type 0 where
   pub tables : LiveParts
   pub records : List UndoRecord
 
+abbrev pub session_parts : List (List ℕ) → List FeedConfig → List Link → LiveParts → List UndoRecord → SessionParts
+session_parts sides feeds links tables records =
+    record { sides = sides; feeds = feeds; links = links; tables = tables; records = records }
+
 abbrev pub named_sides : List (List ℕ) → List Table → List SideTable
 named_sides names [] = []
 named_sides [] (t ∷ ts) = record { name = []; table = t } ∷ named_sides [] ts

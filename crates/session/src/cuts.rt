@@ -3,10 +3,10 @@
 
 ghost use Rattle.session.specs.Cuts.{
   BreaksInBoth,
-  FaultsAreTold,
+  FaultsAreReported,
   FaultsBreak,
-  FinishIsTold,
-  PushFaultsAreTold,
+  FinishIsReported,
+  PushFaultsAreReported,
   RunIsReplayed,
   SameRuns,
 };
@@ -19,10 +19,10 @@ use feed::{cut_law as push_law, pieces_law};
 pub fn cut_law()
     ensures replay { RunIsReplayed }
     ensures same { SameRuns }
-    ensures faults { FaultsAreTold }
+    ensures faults { FaultsAreReported }
     ensures breaks { FaultsBreak }
-    ensures finish { FinishIsTold }
-    ensures pushes { PushFaultsAreTold }
+    ensures finish { FinishIsReported }
+    ensures pushes { PushFaultsAreReported }
     ensures both { BreaksInBoth }
 {
     push_law();

@@ -140,28 +140,18 @@ pub struct Session {
 
 impl Model for Session {
     ghost use Rattle.std.specs.Prelude.{map, string_bytes};
-    ghost use Rattle.session.specs.Shows.{IsSession, SessionParts, columns_of, parts_code};
+    ghost use Rattle.session.specs.Shows.{IsSession, SessionParts, columns_of, parts_code, session_parts};
 
     ghost Value = { SessionParts };
 
     ghost coded = { parts_code };
 
-    ghost view = { λ s. record {
-      sides = map string_bytes s.names.items;
-      feeds = s.feeds.items;
-      links = s.links.items;
-      tables = s.tables;
-      records = s.records.items;
-    } };
+    ghost view = { λ s.
+        session_parts (map string_bytes s.names.items) s.feeds.items s.links.items s.tables s.records.items };
 
     ghost invariant = { λ s. IsSession
-        (record {
-          sides = map string_bytes s.names.items;
-          feeds = s.feeds.items;
-          links = s.links.items;
-          tables = s.tables;
-          records = s.records.items;
-        }) s.records.capacity (columns_of s.schemas.items) };
+        (session_parts (map string_bytes s.names.items) s.feeds.items s.links.items s.tables s.records.items)
+        s.records.capacity (columns_of s.schemas.items) };
 }
 
 impl Session {

@@ -87,17 +87,17 @@ use Rattle.row_keys.specs.Slots.{Slot, new_slot, no_slot, row_of}
 use Rattle.row_keys.specs.Store.{Store}
 use Rattle.upkeep.specs.Arrivals.{
   AreReferring,
-  EachTells,
+  EachDescribes,
   IsDropped,
-  Tells,
-  TellsOf,
+  Describes,
+  DescribesSome,
   last_rows,
   opened_at,
   opened_first,
   rows_of_numbers,
 }
 use Rattle.upkeep.specs.Stores.{rows_at, rows_in}
-use Rattle.upkeep.specs.ViewStates.{IsDroppedLink, link_row, made_by, made_row, referring_row}
+use Rattle.upkeep.specs.ViewStates.{IsDroppedLink, link_row, projected_by, projected_row, referring_row}
 use Rattle.upkeep.specs.declared.view_state.Links.{Links}
 use Rattle.upkeep.specs.declared.view_state.Links.TheVariants as links
 use Rattle.upkeep.specs.declared.arrivals.Arrival.{Arrival}
@@ -203,7 +203,7 @@ fails_alone n o f row is within isnt =
 pub batch_tells :
     (law : TruthIsOfFirstCells) (v : View) (f : Filter) (batch : List CheckedColumn) (n : ℕ) (a : Arrival)
     → v.filter ≡ Some f → IsWithin (length batch) f → a.truths ≡ truths_in n batch f
-    → AreReferring v.lookup (batch_rows n batch) a.looked_up.items → Tells v (batch_rows n batch) (Some a)
+    → AreReferring v.lookup (batch_rows n batch) a.looked_up.items → Describes v (batch_rows n batch) (Some a)
 batch_tells law v f batch n a is within truths refers k below =
     let inside : k < n = subst (λ m. k < m) (batch_length (cells_in batch) n) below in
     let here : get_or a.truths k None ≡ truth (cells_of_row batch k) f =
@@ -252,7 +252,7 @@ cells_refer n batch l column cells at there long same k below =
 
 pub stored_tells :
     (v : View) (o : Option Arrival) (old slots : List Slot) (rows : List (List Datum)) (n : ℕ)
-    → slots ≡ with_new old rows → length rows ≡ n → Tells v rows o → Tells v (last_rows n slots) o
+    → slots ≡ with_new old rows → length rows ≡ n → Describes v rows o → Describes v (last_rows n slots) o
 stored_tells v o old slots rows n is long tells k below =
     let first : ℕ = length slots - n in
     let inside : k < n = subst (λ m. k < m) (length-map-range_with_len (row_of slots) first n) below in
@@ -267,11 +267,11 @@ stored_tells v o old slots rows n is long tells k below =
     ∙ ap (λ (s : Slot). s.row)
     (get_or-append-add old (map new_slot rows) k no_slot
     ∙ get_or-map new_slot rows k [] no_slot (omega (arith, inside, long))) in
-    subst (TellsOf v o k) (sym here) (tells k (omega (arith, inside, long)))
+    subst (DescribesSome v o k) (sym here) (tells k (omega (arith, inside, long)))
 
 pub each_stored :
     (views : List View) (os : List (Option Arrival)) (old slots : List Slot) (rows : List (List Datum)) (n : ℕ)
-    → slots ≡ with_new old rows → length rows ≡ n → EachTells views rows os → EachTells views (last_rows n slots) os
+    → slots ≡ with_new old rows → length rows ≡ n → EachDescribes views rows os → EachDescribes views (last_rows n slots) os
 each_stored views [] old slots rows n is long each = tt
 each_stored [] (o ∷ os) old slots rows n is long each = tt
 each_stored (v ∷ vs) (o ∷ os) old slots rows n is long each = (
@@ -282,55 +282,55 @@ each_stored (v ∷ vs) (o ∷ os) old slots rows n is long each = (
 pub appended_tells :
     (stores : List Store) (views us vs : List View) (os ps : List (Option Arrival)) (s t : Store)
     (rows given : List (List Datum)) (n : ℕ) → us ≡ views → vs ≡ views → ps ≡ os → given ≡ rows → 0 < length stores
-    → t.slots ≡ with_new s.slots rows → length rows ≡ n → EachTells us given os
-    → EachTells vs (last_rows n (rows_at (rows_in (slice_set stores 0 t)) 0)) ps
+    → t.slots ≡ with_new s.slots rows → length rows ≡ n → EachDescribes us given os
+    → EachDescribes vs (last_rows n (rows_at (rows_in (slice_set stores 0 t)) 0)) ps
 appended_tells stores views us vs os ps s t rows given n first after same is main made long each =
     let slots : List Slot = rows_at (rows_in (slice_set stores 0 t)) 0 in
-    let told : EachTells us rows os = subst (λ rs. EachTells us rs os) is each in
-    let stored : EachTells us (last_rows n slots) os =
+    let told : EachDescribes us rows os = subst (λ rs. EachDescribes us rs os) is each in
+    let stored : EachDescribes us (last_rows n slots) os =
     each_stored us os s.slots slots rows n (rows_now stores 0 t main ∙ made) long told in
-    subst (λ (ws : List View). EachTells ws (last_rows n slots) ps) (first ∙ sym after)
-    (subst (EachTells us (last_rows n slots)) (sym same) stored)
+    subst (λ (ws : List View). EachDescribes ws (last_rows n slots) ps) (first ∙ sym after)
+    (subst (EachDescribes us (last_rows n slots)) (sym same) stored)
 
 -- Views one after the other
 
 pub each_push :
     (views : List View) (rows : List (List Datum)) (os : List (Option Arrival)) (v : View) (o : Option Arrival)
-    → v ≡ get_or views (length os) v → Tells v rows o → EachTells views rows os
-    → EachTells views rows (os ++ o ∷ [])
+    → v ≡ get_or views (length os) v → Describes v rows o → EachDescribes views rows os
+    → EachDescribes views rows (os ++ o ∷ [])
 each_push [] rows [] v o at tells each = tt
 each_push [] rows (p ∷ ps) v o at tells each = tt
-each_push (w ∷ ws) rows [] v o at tells each = (subst (λ (x : View). Tells x rows o) at tells, tt)
+each_push (w ∷ ws) rows [] v o at tells each = (subst (λ (x : View). Describes x rows o) at tells, tt)
 each_push (w ∷ ws) rows (p ∷ ps) v o at tells each = (each.0, each_push ws rows ps v o at tells each.1)
 
-none_tells : (v : View) (rows : List (List Datum)) (o : Option Arrival) → o ≡ None → Tells v rows o
-none_tells v rows o is k below = subst (λ p. TellsOf v p k (get_or rows k [])) (sym is) tt
+none_tells : (v : View) (rows : List (List Datum)) (o : Option Arrival) → o ≡ None → Describes v rows o
+none_tells v rows o is k below = subst (λ p. DescribesSome v p k (get_or rows k [])) (sym is) tt
 
 pub each_at :
     (views : List View) (rows : List (List Datum)) (os : List (Option Arrival)) (place : ℕ) (v : View)
     (o : Option Arrival) → v ≡ get_or views place v → o ≡ get_or os place None → place < length views
-    → EachTells views rows os → Tells v rows o
+    → EachDescribes views rows os → Describes v rows o
 each_at [] rows os place v o at is below each = absurd (omega (arith, below))
 each_at (w ∷ ws) rows [] place v o at is below each = none_tells v rows o is
 each_at (w ∷ ws) rows (p ∷ ps) zero v o at is below each =
-    subst (λ (x : View). Tells x rows o) (sym at) (subst (Tells w rows) (sym is) each.0)
+    subst (λ (x : View). Describes x rows o) (sym at) (subst (Describes w rows) (sym is) each.0)
 each_at (w ∷ ws) rows (p ∷ ps) (suc place) v o at is below each =
     each_at ws rows ps place v o at is (omega (arith, below)) each.1
 
 -- A row of those with these numbers
 pub tells_one :
     (v : View) (o : Option Arrival) (slots : List Slot) (ns : List ℕ) (k : ℕ) → k < length ns
-    → Tells v (rows_of_numbers slots ns) o → TellsOf v o k (row_of slots (get_or ns k 0))
+    → Describes v (rows_of_numbers slots ns) o → DescribesSome v o k (row_of slots (get_or ns k 0))
 tells_one v o slots ns k below tells =
     let long : length (rows_of_numbers slots ns) ≡ length ns = length-map ns (row_of slots) in
-    subst (TellsOf v o k) (get_or-map (row_of slots) ns k 0 [] below) (tells k (omega (arith, below, long)))
+    subst (DescribesSome v o k) (get_or-map (row_of slots) ns k 0 [] below) (tells k (omega (arith, below, long)))
 
 -- What is made of a row that is dropped
-pub made-none : (os : Outputs) (o : Option (List Datum)) → o ≡ None → made_by os o ≡ None
+pub made-none : (os : Outputs) (o : Option (List Datum)) → o ≡ None → projected_by os o ≡ None
 made-none (columns outputs) o is = ap (option_map (shown_row outputs)) is
 made-none (groups by outputs having) o is = is
 
-pub made_none : (v : View) (side : Side) (row : List Datum) → IsDropped v row → made_row v side row ≡ None
+pub made_none : (v : View) (side : Side) (row : List Datum) → IsDropped v row → projected_row v side row ≡ None
 made_none v side row dropped = made-none v.outputs (kept_row v side row) (dropped side)
 
 -- What links keep of it
@@ -348,7 +348,7 @@ first-more p ts k true is below = count_by_more_yes p ts k None below is
 first-more p ts k false is below =
     let same = count_by_more_no p ts k None below is in omega (arith, same)
 
-pub opened_next : (v : View) (o : Option Arrival) (k : ℕ) (row : List Datum) → TellsOf v o k row
+pub opened_next : (v : View) (o : Option Arrival) (k : ℕ) (row : List Datum) → DescribesSome v o k row
     → opened_first o (k + 1) ≡ opened_first o k + opened_at o k
 opened_next v None k row tells = refl
 opened_next v (Some a) k row tells =

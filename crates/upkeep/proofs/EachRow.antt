@@ -34,20 +34,20 @@ use Rattle.upkeep.specs.Reading.{AreShown, IsReadable, LiveAreShown}
 use Rattle.upkeep.specs.ViewStates.{
   AreLinks,
   IsCurrent,
-  IsKept,
-  IsKeptBy,
+  IsMaterialized,
+  IsMaterializedBy,
   KeepsLinks,
   ShowsEach,
   is_plain,
   leaves_none,
   link_row,
-  made_by,
-  made_row,
+  projected_by,
+  projected_row,
   referring_by,
   stays,
 }
-use Rattle.upkeep.specs.declared.view_state.Kept.{Kept}
-use Rattle.upkeep.specs.declared.view_state.Kept.TheVariants as kept
+use Rattle.upkeep.specs.declared.view_state.Materialized.{Materialized}
+use Rattle.upkeep.specs.declared.view_state.Materialized.TheVariants as kept
 use Rattle.upkeep.specs.declared.view_state.Links.{Links}
 use Rattle.upkeep.specs.declared.view_state.Links.TheVariants as links
 use Rattle.upkeep.specs.declared.view_state.ViewState.{ViewState}
@@ -71,7 +71,7 @@ joined_each (Some l) side row is =
 
 made_each : (os : Outputs) (f : Option Filter) (joined : Option (List Datum)) (row : List Datum) → is_plain os ≡ true
     → f ≡ None → joined ≡ Some row
-    → (made : List Datum) × (made_by os (option_and_then (λ r. cond (passes f r) (Some r) None) joined) ≡ Some made)
+    → (made : List Datum) × (projected_by os (option_and_then (λ r. cond (passes f r) (Some r) None) joined) ≡ Some made)
 unfolding passes
 made_each (columns outs) None (Some joined) row plain none is = (shown_row outs joined, refl)
 made_each (columns outs) None None row plain none is = absurd (cc)
@@ -79,7 +79,7 @@ made_each (columns outs) (Some f) joined row plain none is = absurd (cc)
 made_each (groups by outs having) f joined row plain none is = absurd (cc)
 
 made_of_each : (v : View) (side : Side) → ShowsEach v → (row : List Datum)
-    → (made : List Datum) × (made_row v side row ≡ Some made)
+    → (made : List Datum) × (projected_row v side row ≡ Some made)
 made_of_each v side each row =
     let j = joined_each v.lookup side row each.lookup in
     made_each v.outputs v.filter (joined_row v.lookup side row) j.0 each.plain each.filter j.1
@@ -117,14 +117,14 @@ plain_outputs (groups by outs having) rows plain = absurd (cc)
 
 module _ (laws : Laws) (tables : List Table) (v : View) (side : Side) (slots : List Slot) (each : ShowsEach v) where
   abbrev made : NumberedRows
-  made = image (made_row v side) (numbered slots)
+  made = image (projected_row v side) (numbered slots)
 
   made_numbers : keys_of made ≡ keys_of (numbered slots)
-  made_numbers = same_numbers (made_row v side) (made_of_each v side each) (numbered slots)
+  made_numbers = same_numbers (projected_row v side) (made_of_each v side each) (numbered slots)
 
   ascending : IsStrictlySortedBy nat_cmp (keys_of made)
   ascending =
-      (laws.fits (made_row v side) (numbered slots) []
+      (laws.fits (projected_row v side) (numbered slots) []
       (record { ascending = laws.ascend slots; in_turn = tt })).ascending
 
   taken : Viewed tables v side (live slots)
@@ -169,15 +169,15 @@ live_asked law v slots there most numbers same asked first tables side is =
 
 -- an order is kept of plain views alone
 pub order_is_plain : (Each : Type 0) (os : Outputs) (order : List OrderBy) (o : OrderedPlaces) (rows : NumberedRows)
-    → IsKeptBy Each (kept.Order o) os order rows → is_plain os ≡ true
+    → IsMaterializedBy Each (kept.Order o) os order rows → is_plain os ≡ true
 order_is_plain Each (columns outs) order o rows k = refl
 order_is_plain Each (groups by outs having) order o rows k = absurd k
 
 -- What is kept of such a view is that of any rows.
 
-pub still_live : (v : View) (k : Kept) (old new : NumberedRows) → k ≡ kept.Live → IsKept v k old → IsKept v k new
+pub still_live : (v : View) (k : Materialized) (old new : NumberedRows) → k ≡ kept.Live → IsMaterialized v k old → IsMaterialized v k new
 still_live v k old new is live =
-    subst (λ (x : Kept). IsKept v x old → IsKept v x new) (sym is) (λ each. each) live
+    subst (λ (x : Materialized). IsMaterialized v x old → IsMaterialized v x new) (sym is) (λ each. each) live
 
 none_refer : (l : Option Lookup) (rows : NumberedRows) → l ≡ None → image (referring_by l) rows ≡ []
 none_refer None [] is = refl
@@ -186,7 +186,7 @@ none_refer (Some l) rows is = absurd (cc)
 
 -- and so are links, where no table is looked up
 still_linked :
-    (tables : List Table) (v : View) (k : Kept) (l : Links) (old new : NumberedRows) → v.lookup ≡ None
+    (tables : List Table) (v : View) (k : Materialized) (l : Links) (old new : NumberedRows) → v.lookup ≡ None
     → AreLinks tables v k l → KeepsLinks l (image (link_row l v) old) → KeepsLinks l (image (link_row l v) new)
 still_linked tables v k (links.Rows r) old new none are keeps =
     subst (KeepsReferrers r) (none_refer v.lookup old none ∙ sym (none_refer v.lookup new none)) keeps
@@ -198,6 +198,6 @@ pub still_current :
     → (s.kept ≡ kept.Live) × (v.lookup ≡ None) → IsCurrent tables v side s old → IsCurrent tables v side s new
 still_current tables v side s old new nothing current = λ fresh.
     let was = current fresh in (
-      still_live v s.kept (image (made_row v side) old) (image (made_row v side) new) nothing.0 was.0,
+      still_live v s.kept (image (projected_row v side) old) (image (projected_row v side) new) nothing.0 was.0,
       (was.1.0, still_linked tables v s.kept s.links old new nothing.1 was.1.0 was.1.1),
     )

@@ -43,13 +43,13 @@ use Rattle.upkeep.specs.ViewStates.{
   IsBefore,
   IsCurrent,
   IsCurrentWith,
-  IsKept,
+  IsMaterialized,
   KeepsLinks,
   link_row,
   looks_up,
-  made_row,
+  projected_row,
   referring_row,
-  remade_change,
+  reprojected_change,
   swapped_at,
   width_in,
 }
@@ -166,10 +166,10 @@ module _ (laws : Laws) (tables : List Table) (n : ℕ) (u : Turn) (c : TableChan
   main = rows_at rows 0
 
   abbrev pub made_without : List Datum → Option (List Datum)
-  made_without = made_row v (side_by tables (swapped_at n u c rows) v)
+  made_without = projected_row v (side_by tables (swapped_at n u c rows) v)
 
   abbrev pub made_with : List Datum → Option (List Datum)
-  made_with = made_row v (side_by tables rows v)
+  made_with = projected_row v (side_by tables rows v)
 
   pub look : (l : Lookup) × (v.lookup ≡ Some l)
   look = look_some v.lookup n looks
@@ -211,7 +211,7 @@ module _ (laws : Laws) (tables : List Table) (n : ℕ) (u : Turn) (c : TableChan
         (referring_rows v.lookup look.0 n (named_keys (table_at tables n) c (rows_at rows n)) main ns look.1 looks
         refer)
 
-    change_leads : Leads (image made_without (numbered main)) (remade_change tables rows v n u c ns)
+    change_leads : Leads (image made_without (numbered main)) (reprojected_change tables rows v n u c ns)
         (image made_with (numbered main))
     change_leads =
         let names : List Datum = named_keys (table_at tables n) c (rows_at rows n) in
@@ -221,7 +221,7 @@ module _ (laws : Laws) (tables : List Table) (n : ℕ) (u : Turn) (c : TableChan
         (sides_swapped tables v.lookup n u c rows below looks) refer)
 
     change_few : (t : Table) → IsTable t → length (live main) ≤ t.max_rows
-        → IsFew (image made_without (numbered main)) (remade_change tables rows v n u c ns)
+        → IsFew (image made_without (numbered main)) (reprojected_change tables rows v n u c ns)
     change_few t right held =
         let shorter = image_length made_without (numbered main) in
         let few = live_few laws.live t main right held in
@@ -232,8 +232,8 @@ module _ (laws : Laws) (tables : List Table) (n : ℕ) (u : Turn) (c : TableChan
 
     -- what is asked where the change is made
     pub remake_needs : (t : Table) → IsTable t → length (live main) ≤ t.max_rows
-        → (kept : NumberedRows) × (IsKept v s.kept kept
-        × (Fits kept (remade_change tables rows v n u c ns) × IsFew kept (remade_change tables rows v n u c ns)))
+        → (kept : NumberedRows) × (IsMaterialized v s.kept kept
+        × (Fits kept (reprojected_change tables rows v n u c ns) × IsFew kept (reprojected_change tables rows v n u c ns)))
     remake_needs t right held = (
       image made_without (numbered main),
       ((was fresh).0, (change_leads.fits, change_few t right held)),
@@ -241,12 +241,12 @@ module _ (laws : Laws) (tables : List Table) (n : ℕ) (u : Turn) (c : TableChan
 
     -- and what is kept then
     pub remade_kept : (new : ViewState) → new.links ≡ s.links
-        → ((kept : NumberedRows) → Fits kept (remade_change tables rows v n u c ns)
-        → IsKept v s.kept kept
-        → IsKept v new.kept (patched kept (remade_change tables rows v n u c ns)))
+        → ((kept : NumberedRows) → Fits kept (reprojected_change tables rows v n u c ns)
+        → IsMaterialized v s.kept kept
+        → IsMaterialized v new.kept (patched kept (reprojected_change tables rows v n u c ns)))
         → IsCurrentWith tables rows v new
     remade_kept new same kept = λ still. (
-      subst (λ (made : NumberedRows). IsKept v new.kept made) change_leads.patched_is
+      subst (λ (made : NumberedRows). IsMaterialized v new.kept made) change_leads.patched_is
           (kept (image made_without (numbered main)) change_leads.fits (was fresh).0),
       subst (λ (l : Links). AreLinks tables v new.kept l × KeepsLinks l (image (link_row l v) (numbered main)))
           (sym (same ∙ is)) (unmoved, keeps),

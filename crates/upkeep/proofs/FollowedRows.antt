@@ -20,16 +20,16 @@ use Rattle.upkeep.specs.StoreLaws.{rows_there, table_there}
 use Rattle.upkeep.specs.ViewStates.{
   AreLinks,
   IsCurrent,
-  IsKept,
+  IsMaterialized,
   KeepsLinks,
   columns_in,
   form_of,
   link_row,
-  made_row,
+  projected_row,
   turned,
   width_in,
 }
-use Rattle.upkeep.specs.declared.view_state.Kept.{Kept}
+use Rattle.upkeep.specs.declared.view_state.Materialized.{Materialized}
 use Rattle.upkeep.specs.declared.view_state.Links.{Links}
 use Rattle.upkeep.specs.declared.view_state.Links.TheVariants as links
 use Rattle.upkeep.specs.declared.view_state.Turn.TheVariants as turn
@@ -58,11 +58,11 @@ image_few make rows change few =
 pub follow_needs :
     (law : ImageFits) (tables : List Table) (v : View) (side : Side) (s : ViewState) (change : List Shift)
     (rows : NumberedRows) → IsCurrent tables v side s rows → Fits rows change → IsFew rows change → s.stale ≡ false
-    → (kept : NumberedRows) × (IsKept v s.kept kept
-    × (Fits kept (map (shift_image (made_row v side)) change)
-    × IsFew kept (map (shift_image (made_row v side)) change)))
+    → (kept : NumberedRows) × (IsMaterialized v s.kept kept
+    × (Fits kept (map (shift_image (projected_row v side)) change)
+    × IsFew kept (map (shift_image (projected_row v side)) change)))
 follow_needs law tables v side s change rows current fits few fresh =
-    let f : List Datum → Option (List Datum) = made_row v side in (
+    let f : List Datum → Option (List Datum) = projected_row v side in (
       image f rows,
       ((current fresh).0, (law f rows change fits, image_few f rows change few)),
     )
@@ -101,7 +101,7 @@ same_groups n v s t keys columns are = record {
 }
 
 pub links_stay :
-    (tables : List Table) (v : View) (k next : Kept) (l now : Links) → columns_in next ≡ columns_in k
+    (tables : List Table) (v : View) (k next : Materialized) (l now : Links) → columns_in next ≡ columns_in k
     → form_of now ≡ form_of l → AreLinks tables v k l → AreLinks tables v next now
 links_stay tables v k next (links.Rows r) (links.Rows q) kept form are = are
 links_stay tables v k next (links.Rows r) (links.SubGroups s) kept form are = absurd (cc)
@@ -118,17 +118,17 @@ pub followed :
     (fit : ImageFits) (patch : ImagePatched) (tables : List Table) (v : View) (side : Side) (s next : ViewState)
     (change : List Shift) → s.stale ≡ false → columns_in next.kept ≡ columns_in s.kept
     → form_of next.links ≡ form_of s.links
-    → ((rows : NumberedRows) → Fits rows (map (shift_image (made_row v side)) change) → IsKept v s.kept rows
-    → IsKept v next.kept (patched rows (map (shift_image (made_row v side)) change)))
+    → ((rows : NumberedRows) → Fits rows (map (shift_image (projected_row v side)) change) → IsMaterialized v s.kept rows
+    → IsMaterialized v next.kept (patched rows (map (shift_image (projected_row v side)) change)))
     → ((rows : NumberedRows) → Fits rows (map (shift_image (link_row s.links v)) change) → KeepsLinks s.links rows
     → KeepsLinks next.links (patched rows (map (shift_image (link_row s.links v)) change)))
     → (rows : NumberedRows) → Fits rows change → IsCurrent tables v side s rows
     → IsCurrent tables v side next (patched rows change)
 followed fit patch tables v side s next change was columns form kept links rows fits current = λ fresh.
-    let f : List Datum → Option (List Datum) = made_row v side in
+    let f : List Datum → Option (List Datum) = projected_row v side in
     let g : List Datum → Option (List Datum) = link_row s.links v in
     let here = current was in (
-      subst (IsKept v next.kept) (sym (patch f rows change fits)) (kept (image f rows) (fit f rows change fits) here.0),
+      subst (IsMaterialized v next.kept) (sym (patch f rows change fits)) (kept (image f rows) (fit f rows change fits) here.0),
       (
         links_stay tables v s.kept next.kept s.links next.links columns form here.1.0,
         subst (λ (h : List Datum → Option (List Datum)). KeepsLinks next.links (image h (patched rows change)))
@@ -173,6 +173,6 @@ rebuilt come_law stores s numbers given is main same named =
 
 -- the state of a view of no rows
 pub none_current :
-    (tables : List Table) (v : View) (side : Side) (s : ViewState) → IsKept v s.kept [] → AreLinks tables v s.kept s.links
+    (tables : List Table) (v : View) (side : Side) (s : ViewState) → IsMaterialized v s.kept [] → AreLinks tables v s.kept s.links
     → KeepsLinks s.links [] → IsCurrent tables v side s []
 none_current tables v side s kept right links = λ fresh. (kept, (right, links))

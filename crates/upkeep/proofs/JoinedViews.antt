@@ -22,10 +22,10 @@ use Rattle.row_keys.specs.Slots.{IsLiveAt, Slot, live, row_of}
 use Rattle.row_keys.specs.Store.{Store}
 use Rattle.upkeep.specs.Inputs.{side_from}
 use Rattle.upkeep.specs.JoinedRows.{AreLookedUp, JoinsWith, row_beside}
-use Rattle.upkeep.specs.Reading.{AreShown, made_at}
+use Rattle.upkeep.specs.Reading.{AreShown, projected_at}
 use Rattle.upkeep.specs.Shown.{AreJoined}
 use Rattle.upkeep.specs.Stores.{main_slots, rows_in, slots_in, tables_in, world_of}
-use Rattle.upkeep.specs.ViewStates.{made_row, width_at, width_in}
+use Rattle.upkeep.specs.ViewStates.{projected_row, width_at, width_in}
 use Rattle.upkeep.specs.declared.shown.JoinedColumns.{JoinedColumns}
 use Rattle.upkeep.proofs.ShownColumns.{made_of, no_more}
 
@@ -95,13 +95,13 @@ module _ (stores : List Store) (v : View) (l : Lookup) (outputs : List Output) (
   sides = slots_in stores (suc l.side)
 
   abbrev Made : ℕ → Type 0
-  Made n = (row : List Datum) × (made_row v (side_from stores v) (row_of slots n) ≡ Some row)
+  Made n = (row : List Datum) × (projected_row v (side_from stores v) (row_of slots n) ≡ Some row)
 
   side_is : side_from stores v ≡ side_in (tables_in stores) (world_of (rows_in stores)) (Some l)
   side_is = ap (side_in (tables_in stores) (world_of (rows_in stores))) looks
 
   made_one : (n : ℕ) (o : Option ℕ) → option_map (row_of sides) o ≡ row_beside stores l n → Made n
-      → made_row v (side_from stores v) (row_of slots n)
+      → projected_row v (side_from stores v) (row_of slots n)
       ≡ Some (picked (map column_of outputs) (row_of slots n ++ row_if (row_of sides) o))
   made_one n o found made =
       let row : List Datum = row_of slots n in
@@ -115,7 +115,7 @@ module _ (stores : List Store) (v : View) (l : Lookup) (outputs : List Output) (
 
   pub made_joined : (numbers : List ℕ) (found : List (Option ℕ)) → AreLookedUp stores l numbers found → All Made numbers
       → picked_rows (map column_of outputs) (beside (map (row_of slots) numbers) (map (row_if (row_of sides)) found))
-      ≡ made_at v (side_from stores v) slots numbers
+      ≡ projected_at v (side_from stores v) slots numbers
   made_joined [] [] same made = refl
   made_joined [] (o ∷ os) same made = refl
   made_joined (n ∷ ns) [] same made = absurd (omega (arith, ap length same))
@@ -125,7 +125,7 @@ module _ (stores : List Store) (v : View) (l : Lookup) (outputs : List Output) (
       let tail : AreLookedUp stores l ns os = ap (λ xs. drop 1 xs) same in
       ap (λ rows. picked (map column_of outputs) (row_of slots n ++ row_if (row_of sides) o) ∷ rows)
       (made_joined ns os tail (All-tail Made n ns made))
-      ∙ sym (ap (λ x. cons_option x (made_at v (side_from stores v) slots ns))
+      ∙ sym (ap (λ x. cons_option x (projected_at v (side_from stores v) slots ns))
       (made_one n o head (All-head Made n ns made)))
 
 narrow : (tables : List Table) (l : Lookup) (os : Outputs) (outputs : List Output) → os ≡ columns outputs
@@ -173,6 +173,6 @@ columns_joined stores v l outputs numbers j right looks plain coded shown joins 
           ap (λ cs. rows cs j.visits j.table) joins.columns_are
           ∙ ap (λ ns. rows (map column_of outputs) ns j.table) joins.visits_are
           ∙ ap (rows (map column_of outputs) numbers) joins.table_is
-          ∙ made_joined stores v l outputs plain looks numbers j.side_numbers.items joins.looked_up shown.each_made
+          ∙ made_joined stores v l outputs plain looks numbers j.side_numbers.items joins.looked_up shown.each_projected
           ∙ shown.rows;
     }

@@ -38,10 +38,10 @@ use Rattle.top_rows.specs.PlaceOrder.{sort_key_cmp}
 use Rattle.top_rows.specs.SortKeys.{sort_key_of, sort_keys_of}
 use Rattle.top_rows.specs.Ties.{has_sort_keys}
 use Rattle.top_rows.specs.declared.sort_key.SortKey.{SortKey}
-use Rattle.upkeep.specs.AlikeRows.{are_kept_alike_by, are_remade_alike, are_same, differ_in}
-use Rattle.upkeep.specs.ViewStates.{IsKept, IsKeptBy, ShowsEach, made_by}
-use Rattle.upkeep.specs.declared.view_state.Kept.{Kept}
-use Rattle.upkeep.specs.declared.view_state.Kept.TheVariants as kept
+use Rattle.upkeep.specs.AlikeRows.{are_materialized_alike_by, are_reprojected_alike, are_same, differ_in}
+use Rattle.upkeep.specs.ViewStates.{IsMaterialized, IsMaterializedBy, ShowsEach, projected_by}
+use Rattle.upkeep.specs.declared.view_state.Materialized.{Materialized}
+use Rattle.upkeep.specs.declared.view_state.Materialized.TheVariants as kept
 use Rattle.upkeep.proofs.Mixtures.{Each, each_length}
 use Rattle.upkeep.proofs.Remade.{AreUp, same_number, set_same}
 use Rattle.upkeep.proofs.SameCells.{known_same}
@@ -197,8 +197,8 @@ order_kept :
     (Shows : Type 0) (outs : List Output) (order : List OrderBy) (o : OrderedPlaces) (n : ℕ) (a b : List Datum)
     (rows : NumberedRows)
     → All (λ by. cell_at (shown_row outs a) by.column ≡ cell_at (shown_row outs b) by.column) order → AreUp rows
-    → row_at n rows ≡ Some (shown_row outs a) → IsKeptBy Shows (kept.Order o) (columns outs) order rows
-    → IsKeptBy Shows (kept.Order o) (columns outs) order (with_at n (Some (shown_row outs b)) rows)
+    → row_at n rows ≡ Some (shown_row outs a) → IsMaterializedBy Shows (kept.Order o) (columns outs) order rows
+    → IsMaterializedBy Shows (kept.Order o) (columns outs) order (with_at n (Some (shown_row outs b)) rows)
 order_kept Shows outs order o n a b rows same up here keeps =
     let keys : sort_keys_of o.order (shown_row outs a) ≡ sort_keys_of o.order (shown_row outs b) =
     subst (λ (x : List OrderBy). sort_keys_of x (shown_row outs a) ≡ sort_keys_of x (shown_row outs b)) (sym keeps.0)
@@ -209,8 +209,8 @@ groups_kept :
     (Shows : Type 0) (by : List ℕ) (outputs : List GroupOutput) (having : Option Filter) (order : List OrderBy)
     (g : Ranked) (n : ℕ) (a b : List Datum) (rows : NumberedRows) → All (λ j. cell_at a j ≡ cell_at b j) by
     → All (λ c. cell_at a c.column ≡ cell_at b c.column) g.groups.columns → AreUp rows → row_at n rows ≡ Some a
-    → IsKeptBy Shows (kept.Groups g) (groups by outputs having) order rows
-    → IsKeptBy Shows (kept.Groups g) (groups by outputs having) order (with_at n (Some b) rows)
+    → IsMaterializedBy Shows (kept.Groups g) (groups by outputs having) order rows
+    → IsMaterializedBy Shows (kept.Groups g) (groups by outputs having) order (with_at n (Some b) rows)
 groups_kept Shows by outputs having order g n a b rows same cells_same up here keeps =
     let alike : AreGroupedAlike g.groups.keys g.groups.columns a b = record {
       tuple = subst (λ (x : List ℕ). tuple_of x a ≡ tuple_of x b) (sym keeps.0) (same_tuple by a b same);
@@ -243,9 +243,9 @@ both_not true b h = absurd (true≢false (sym h))
 both_not false true h = absurd (true≢false (sym h))
 both_not false false h = (refl, refl)
 
-alike_by : (Shows : Type 0) (os : Outputs) (order : List OrderBy) (k : Kept) (n : ℕ) (a b : List Datum)
-    (rows : NumberedRows) → are_kept_alike_by os order k a b ≡ true → AreUp rows → row_at n rows ≡ made_by os (Some a)
-    → IsKeptBy Shows k os order rows → IsKeptBy Shows k os order (with_at n (made_by os (Some b)) rows)
+alike_by : (Shows : Type 0) (os : Outputs) (order : List OrderBy) (k : Materialized) (n : ℕ) (a b : List Datum)
+    (rows : NumberedRows) → are_materialized_alike_by os order k a b ≡ true → AreUp rows → row_at n rows ≡ projected_by os (Some a)
+    → IsMaterializedBy Shows k os order rows → IsMaterializedBy Shows k os order (with_at n (projected_by os (Some b)) rows)
 alike_by Shows (columns outs) order kept.Live n a b rows alike up here keeps = absurd (true≢false (sym alike))
 alike_by Shows (columns outs) order (kept.Order o) n a b rows alike up here keeps =
     let none = not_true
@@ -267,11 +267,11 @@ alike_by Shows (groups by outputs having) order (kept.Groups g) n a b rows alike
     none.1) up here keeps
 
 -- Where the same is kept of what a view made of a row and of what it makes of it, what is kept stays as it is.
-pub alike_kept : (v : View) (k : Kept) (n : ℕ) (x y : Option (List Datum)) (rows : NumberedRows)
-    → are_remade_alike v k x y ≡ true → Fits rows (shift n (made_by v.outputs x) (made_by v.outputs y) ∷ [])
-    → IsKept v k rows → IsKept v k (with_at n (made_by v.outputs y) rows)
+pub alike_kept : (v : View) (k : Materialized) (n : ℕ) (x y : Option (List Datum)) (rows : NumberedRows)
+    → are_reprojected_alike v k x y ≡ true → Fits rows (shift n (projected_by v.outputs x) (projected_by v.outputs y) ∷ [])
+    → IsMaterialized v k rows → IsMaterialized v k (with_at n (projected_by v.outputs y) rows)
 alike_kept v k n None None rows alike fits keeps =
-    subst (IsKept v k) (sym (set_same n (made_by v.outputs None) rows fits.ascending fits.in_turn.0)) keeps
+    subst (IsMaterialized v k) (sym (set_same n (projected_by v.outputs None) rows fits.ascending fits.in_turn.0)) keeps
 alike_kept v k n None (Some b) rows alike fits keeps = absurd (true≢false (sym alike))
 alike_kept v k n (Some a) None rows alike fits keeps = absurd (true≢false (sym alike))
 alike_kept v k n (Some a) (Some b) rows alike fits keeps =

@@ -35,7 +35,7 @@ use Rattle.row_keys.specs.Numbered.{numbered}
 use Rattle.row_keys.specs.Slots.{Slot, live}
 use Rattle.upkeep.specs.Inputs.{side_by}
 use Rattle.upkeep.specs.Stores.{Rows, rows_at, world_of}
-use Rattle.upkeep.specs.ViewStates.{AreCurrent, EachIsCurrent, IsCurrent, IsKept, made_by, made_row}
+use Rattle.upkeep.specs.ViewStates.{AreCurrent, EachIsCurrent, IsCurrent, IsMaterialized, projected_by, projected_row}
 use Rattle.upkeep.specs.declared.view_state.ViewState.{ViewState}
 
 abbrev found_by : Table → Datum → List (List Datum) → Option (List Datum)
@@ -59,10 +59,10 @@ looked_same None a b same row = refl
 looked_same (Some l) a b same row = same (cell_at row l.on)
 
 made_same : (v : View) (a b : Side) → ((d : Datum) → a d ≡ b d) → (row : List Datum)
-    → made_row v a row ≡ made_row v b row
+    → projected_row v a row ≡ projected_row v b row
 unfolding joined_row
 made_same v a b same row =
-    ap (λ (found : Option (List Datum)). made_by v.outputs
+    ap (λ (found : Option (List Datum)). projected_by v.outputs
     (option_and_then (λ (r : List Datum). cond (passes v.filter r) (Some r) None) (joined_by v.lookup row found)))
     (looked_same v.lookup a b same row)
 
@@ -78,8 +78,8 @@ pub current_same :
     (tables : List Table) (v : View) (a b : Side) (s : ViewState) (rows : NumberedRows)
     → ((d : Datum) → a d ≡ b d) → IsCurrent tables v a s rows → IsCurrent tables v b s rows
 current_same tables v a b s rows same current = λ fresh. (
-  subst (λ (made : NumberedRows). IsKept v s.kept made)
-      (image_same (made_row v a) (made_row v b) (made_same v a b same) rows) (current fresh).0,
+  subst (λ (made : NumberedRows). IsMaterialized v s.kept made)
+      (image_same (projected_row v a) (projected_row v b) (made_same v a b same) rows) (current fresh).0,
   (current fresh).1,
 )
 

@@ -65,10 +65,10 @@ use Rattle.upkeep.specs.Reading.{
   FirstsAreShown,
   GroupsAreShown,
   IsReadable,
-  made_at,
+  projected_at,
 }
-use Rattle.upkeep.specs.ViewStates.{IsKept, IsKeptBy, ShowsEach, made_by, made_row}
-use Rattle.upkeep.specs.declared.view_state.Kept.TheVariants as kept
+use Rattle.upkeep.specs.ViewStates.{IsMaterialized, IsMaterializedBy, ShowsEach, projected_by, projected_row}
+use Rattle.upkeep.specs.declared.view_state.Materialized.TheVariants as kept
 
 -- the laws of the crates below that are used
 pub record Laws : Type 0 where
@@ -94,16 +94,16 @@ made_rows (groups by outputs having) rows = rows
 module _ (laws : Laws) where
   made_each :
       (os : Outputs) (v : View) (side : Side) (rows : List (List Datum))
-      → filter_map (λ row. made_by os (kept_row v side row)) rows ≡ made_rows os (view_input v side rows)
+      → filter_map (λ row. projected_by os (kept_row v side row)) rows ≡ made_rows os (view_input v side rows)
   made_each (columns outputs) v side rows = laws.shown v outputs side rows
   made_each (groups by outputs having) v side rows = laws.kept v side rows
 
   pub made_values :
       (os : Outputs) (v : View) (side : Side) (slots : List Slot)
-      → values_of (image (λ row. made_by os (kept_row v side row)) (numbered slots))
+      → values_of (image (λ row. projected_by os (kept_row v side row)) (numbered slots))
       ≡ made_rows os (view_input v side (live slots))
   made_values os v side slots =
-      let make : List Datum → Option (List Datum) = λ row. made_by os (kept_row v side row) in
+      let make : List Datum → Option (List Datum) = λ row. projected_by os (kept_row v side row) in
       laws.values make (numbered slots) ∙ ap (filter_map make) (laws.live slots) ∙ made_each os v side (live slots)
 
 -- Rows by number
@@ -149,19 +149,19 @@ made_numbers given make P each (n ∷ ns) (r ∷ rs) same =
 
 -- The row of that number is live, and something is made of it.
 abbrev pub IsMadeAt : View → Side → List Slot → ℕ → Type 0
-IsMadeAt v side slots n = IsLiveAt slots n × ((row : List Datum) × (made_row v side (row_of slots n) ≡ Some row))
+IsMadeAt v side slots n = IsLiveAt slots n × ((row : List Datum) × (projected_row v side (row_of slots n) ≡ Some row))
 
 pub shown_by :
     (v : View) (side : Side) (slots : List Slot) (numbers : List ℕ)
-    → Are (λ n. made_row v side (row_of slots n)) (IsMadeAt v side slots) numbers (view_rows v side (live slots))
+    → Are (λ n. projected_row v side (row_of slots n)) (IsMadeAt v side slots) numbers (view_rows v side (live slots))
     → AreShown v side slots numbers
 shown_by v side slots numbers are =
     let P : ℕ → Type 0 = IsMadeAt v side slots in
-    let M : ℕ → Type 0 = λ n. (row : List Datum) × (made_row v side (row_of slots n) ≡ Some row) in
+    let M : ℕ → Type 0 = λ n. (row : List Datum) × (projected_row v side (row_of slots n) ≡ Some row) in
     record {
       there = All-weaker P (λ n. n < length slots) (λ n h. live_there slots n h.0) numbers are.all;
       each_live = All-weaker P (IsLiveAt slots) (λ n h. h.0) numbers are.all;
-      each_made = All-weaker P M (λ n h. h.1) numbers are.all;
+      each_projected = All-weaker P M (λ n h. h.1) numbers are.all;
       rows = are.made;
       many = are.many;
     }
@@ -187,29 +187,29 @@ record IsPlain (v : View) (side : Side) (slots : List Slot) (o : OrderedPlaces) 
 module _ (laws : Laws) where
   made_there :
       (v : View) (side : Side) (slots : List Slot) (n : ℕ) (r : List Datum)
-      → row_at n (image (made_row v side) (numbered slots)) ≡ Some r
-      → (made_row v side (row_of slots n) ≡ Some r) × IsMadeAt v side slots n
+      → row_at n (image (projected_row v side) (numbered slots)) ≡ Some r
+      → (projected_row v side (row_of slots n) ≡ Some r) × IsMadeAt v side slots n
   made_there v side slots n r here =
       let s : Slot = get_or slots n no_slot in
-      let made : option_and_then (made_row v side) (live_at slots n) ≡ Some r =
-      sym (laws.at (made_row v side) (numbered slots) n (laws.ascend slots)
-      ∙ ap (option_and_then (made_row v side)) (laws.numbers slots n)) ∙ here in
-      let both = live_made (made_row v side) s.live s.row r made in
+      let made : option_and_then (projected_row v side) (live_at slots n) ≡ Some r =
+      sym (laws.at (projected_row v side) (numbered slots) n (laws.ascend slots)
+      ∙ ap (option_and_then (projected_row v side)) (laws.numbers slots n)) ∙ here in
+      let both = live_made (projected_row v side) s.live s.row r made in
       (both.0, (both.1, (r, both.0)))
 
   -- the rows of numbers under which there is something
   pub are_made :
       (v : View) (side : Side) (slots : List Slot) (numbers : List ℕ) (rows : List (List Datum))
-      → map (λ n. row_at n (image (made_row v side) (numbered slots))) numbers ≡ map Some rows
-      → Are (λ n. made_row v side (row_of slots n)) (IsMadeAt v side slots) numbers rows
+      → map (λ n. row_at n (image (projected_row v side) (numbered slots))) numbers ≡ map Some rows
+      → Are (λ n. projected_row v side (row_of slots n)) (IsMadeAt v side slots) numbers rows
   are_made v side slots numbers rows same =
-      made_numbers (λ n. row_at n (image (made_row v side) (numbered slots)))
-      (λ n. made_row v side (row_of slots n)) (IsMadeAt v side slots) (made_there v side slots) numbers rows same
+      made_numbers (λ n. row_at n (image (projected_row v side) (numbered slots)))
+      (λ n. projected_row v side (row_of slots n)) (IsMadeAt v side slots) (made_there v side slots) numbers rows same
 
   plain_by :
       (Each : Type 0) (v : View) (side : Side) (slots : List Slot) (os : Outputs) (o : OrderedPlaces) → v.outputs ≡ os
-      → IsKeptBy Each (kept.Order o) os v.order (image (λ row. made_by os (kept_row v side row)) (numbered slots))
-      → IsPlain v side slots o (image (λ row. made_by os (kept_row v side row)) (numbered slots))
+      → IsMaterializedBy Each (kept.Order o) os v.order (image (λ row. projected_by os (kept_row v side row)) (numbered slots))
+      → IsPlain v side slots o (image (λ row. projected_by os (kept_row v side row)) (numbered slots))
   unfolding output_rows
   plain_by Each v side slots (columns outputs) o same k = record {
     order = k.0;
@@ -221,17 +221,17 @@ module _ (laws : Laws) where
 
   module _ (tables : List Table) (v : View) (side : Side) (slots : List Slot) (o : OrderedPlaces)
       (is : Viewed tables v side (live slots))
-      (k : IsKept v (kept.Order o) (image (made_row v side) (numbered slots))) where
-    plain : IsPlain v side slots o (image (made_row v side) (numbered slots))
+      (k : IsMaterialized v (kept.Order o) (image (projected_row v side) (numbered slots))) where
+    plain : IsPlain v side slots o (image (projected_row v side) (numbered slots))
     plain = plain_by (ShowsEach v) v side slots v.outputs o refl k
 
-    order_readable : IsKeptFor o (image (made_row v side) (numbered slots))
+    order_readable : IsKeptFor o (image (projected_row v side) (numbered slots))
     order_readable =
-        let es : NumberedRows = image (made_row v side) (numbered slots) in
+        let es : NumberedRows = image (projected_row v side) (numbered slots) in
         let keys : AllByRecursion (OrdersKeys v.order) (values_of es) =
         subst (AllByRecursion (OrdersKeys v.order)) (sym plain.outputs) (laws.ordered tables v side (live slots) is) in
         record {
-          ascending = (laws.fits (made_row v side) (numbered slots) []
+          ascending = (laws.fits (projected_row v side) (numbered slots) []
               (record { ascending = laws.ascend slots; in_turn = tt })).ascending;
           kept_rows = plain.keeps;
           keys = all_at (OrdersKeys o.order) es
@@ -240,19 +240,19 @@ module _ (laws : Laws) where
 
     shown_first :
         (most : ℕ) → most ≡ unwrap_or v.first max_main_rows
-        → take most (sorted (row_cmp o.order) (values_of (image (made_row v side) (numbered slots))))
+        → take most (sorted (row_cmp o.order) (values_of (image (projected_row v side) (numbered slots))))
         ≡ view_rows v side (live slots)
     unfolding view_rows shown_rows
     shown_first most asked =
         let made : List (List Datum) = output_rows v.outputs (view_input v side (live slots)) in
-        ap (λ os. take most (sorted (row_cmp os) (values_of (image (made_row v side) (numbered slots))))) plain.order
+        ap (λ os. take most (sorted (row_cmp os) (values_of (image (projected_row v side) (numbered slots))))) plain.order
         ∙ ap (λ xs. take most (sorted (row_cmp v.order) xs)) plain.outputs
         ∙ first_taken v.first most (sorted (row_cmp v.order) made) asked (laws.few tables v side (live slots) is)
 
     firsts :
         (most : ℕ) (numbers : List ℕ) → most ≡ unwrap_or v.first max_main_rows
-        → AreFirst o.order most (image (made_row v side) (numbered slots)) numbers
-        → Are (λ n. made_row v side (row_of slots n)) (IsMadeAt v side slots) numbers (view_rows v side (live slots))
+        → AreFirst o.order most (image (projected_row v side) (numbered slots)) numbers
+        → Are (λ n. projected_row v side (row_of slots n)) (IsMadeAt v side slots) numbers (view_rows v side (live slots))
     firsts most numbers asked first =
         are_made v side slots numbers (view_rows v side (live slots)) (first ∙ ap (map Some) (shown_first most asked))
 
@@ -260,7 +260,7 @@ module _ (laws : Laws) where
   groups_by :
       (Each : Type 0) (tables : List Table) (v : View) (side : Side) (slots : List Slot) (os : Outputs) (g : Ranked)
       (made : List (List Datum)) → v.outputs ≡ os → Viewed tables v side (live slots)
-      → IsKeptBy Each (kept.Groups g) os v.order (image (λ row. made_by os (kept_row v side row)) (numbered slots))
+      → IsMaterializedBy Each (kept.Groups g) os v.order (image (λ row. projected_by os (kept_row v side row)) (numbered slots))
       → ((rows : List (List Datum)) → KeepsRanked g rows
       → CanReadAll g.groups.keys g.groups.columns g.ranking.outputs rows
       → made ≡ take (unwrap_or v.first max_main_rows) (ranked_rows g.groups.keys g.ranking rows))
@@ -308,8 +308,8 @@ pub firsts_asked :
     → AreShown v side slots numbers
 firsts_asked law v o most numbers asked first tables side slots is =
     law tables v side slots o numbers is
-    (λ k. subst (λ m. AreFirst o.order m (image (made_row v side) (numbered slots)) numbers) asked
-    (first (image (made_row v side) (numbered slots)) k))
+    (λ k. subst (λ m. AreFirst o.order m (image (projected_row v side) (numbered slots)) numbers) asked
+    (first (image (projected_row v side) (numbered slots)) k))
 
 -- Rows made one after the other
 
@@ -322,19 +322,19 @@ pub made_more :
     (made : Option (List Datum)) → tables_in now ≡ tables_in stores → rows_in now ≡ rows_in stores
     → i < length numbers
     → before
-    ≡ made_at v (side_by (tables_in stores) (rows_in stores) v) (rows_at (rows_in stores) 0) (take i numbers)
+    ≡ projected_at v (side_by (tables_in stores) (rows_in stores) v) (rows_at (rows_in stores) 0) (take i numbers)
     → made
-    ≡ made_row v (side_by (tables_in now) (rows_in now) v) (row_of (rows_at (rows_in now) 0) (get_or numbers i 0))
+    ≡ projected_row v (side_by (tables_in now) (rows_in now) v) (row_of (rows_at (rows_in now) 0) (get_or numbers i 0))
     → after ≡ before ++ listed made
     → after
-    ≡ made_at v (side_by (tables_in stores) (rows_in stores) v) (rows_at (rows_in stores) 0) (take (i + 1) numbers)
+    ≡ projected_at v (side_by (tables_in stores) (rows_in stores) v) (rows_at (rows_in stores) 0) (take (i + 1) numbers)
 made_more stores now v numbers i before after made tables rows below so_far here pushed =
     let make : ℕ → Option (List Datum) = λ n.
-    made_row v (side_by (tables_in stores) (rows_in stores) v) (row_of (rows_at (rows_in stores) 0) n) in
+    projected_row v (side_by (tables_in stores) (rows_in stores) v) (row_of (rows_at (rows_in stores) 0) n) in
     let n : ℕ = get_or numbers i 0 in
     let one : made ≡ make n =
-    here ∙ ap (λ ts. made_row v (side_by ts (rows_in now) v) (row_of (rows_at (rows_in now) 0) n)) tables
-    ∙ ap (λ rs. made_row v (side_by (tables_in stores) rs v) (row_of (rows_at rs 0) n)) rows in
+    here ∙ ap (λ ts. projected_row v (side_by ts (rows_in now) v) (row_of (rows_at (rows_in now) 0) n)) tables
+    ∙ ap (λ rs. projected_row v (side_by (tables_in stores) rs v) (row_of (rows_at rs 0) n)) rows in
     pushed ∙ ap (λ xs. xs ++ listed made) so_far
     ∙ ap (λ xs. filter_map make (take i numbers) ++ xs) (one_listed made ∙ ap (λ o. cons_option o []) one)
     ∙ sym (filter_map-append make (take i numbers) (n ∷ []))

@@ -57,21 +57,21 @@ use Rattle.row_keys.specs.Slots.{Slot, live}
 use Rattle.sub_groups.specs.FilterParts.{is_main, passes_main}
 use Rattle.sub_groups.specs.SubGroups.{AreSubGroups, IsSubRow, OthersAreLeftOut, rows_but, sub_keys}
 use Rattle.sub_groups.specs.declared.sub_groups.SubGroups.{SubGroups}
-use Rattle.upkeep.specs.Moves.{AreGrouped, CanMove, made_but}
+use Rattle.upkeep.specs.Moves.{AreGrouped, CanMove, projected_but}
 use Rattle.upkeep.specs.ViewStates.{
   AreLinks,
-  IsKept,
-  IsKeptBy,
+  IsMaterialized,
+  IsMaterializedBy,
   KeepsLinks,
   ShowsEach,
   columns_in,
-  made_by,
-  made_row,
+  projected_by,
+  projected_row,
   sub_row_of,
   width_in,
 }
-use Rattle.upkeep.specs.declared.view_state.Kept.{Kept}
-use Rattle.upkeep.specs.declared.view_state.Kept.TheVariants as kept
+use Rattle.upkeep.specs.declared.view_state.Materialized.{Materialized}
+use Rattle.upkeep.specs.declared.view_state.Materialized.TheVariants as kept
 use Rattle.upkeep.specs.declared.view_state.Links.TheVariants as links
 use Rattle.upkeep.proofs.ReferringRows.{keyless}
 
@@ -307,13 +307,13 @@ module _ (v : View) (l : Lookup) (a b : Side) (rest : List ℕ) (named : List Da
 
   pub rest_alike : (rows : List (List Datum)) → AllByRecursion (λ row. IsKeyCell (cell_at row l.on)) rows
       → AllByRecursion (λ row. list_any (is_at (tuple_cmp (tuple_of keys row))) es ≡ true) rows
-      → made_but v a keys ts rows ≡ made_but v b keys ts rows
+      → projected_but v a keys ts rows ≡ projected_but v b keys ts rows
   rest_alike [] keyed there = refl
   rest_alike (row ∷ rows) keyed there =
       go (list_any (is_at (tuple_cmp (tuple_of keys row))) ts) refl (rest_alike rows keyed.1 there.1)
     where
       go : (c : Bool) → list_any (is_at (tuple_cmp (tuple_of keys row))) ts ≡ c
-          → made_but v a keys ts rows ≡ made_but v b keys ts rows
+          → projected_but v a keys ts rows ≡ projected_but v b keys ts rows
           → filter_map (kept_row v a) (cond (not c) (row ∷ rows_but keys ts rows) (rows_but keys ts rows))
           ≡ filter_map (kept_row v b) (cond (not c) (row ∷ rows_but keys ts rows) (rows_but keys ts rows))
       go true e h = h
@@ -326,9 +326,9 @@ none_out ks (row ∷ rows) = ap (λ rs. row ∷ rs) (none_out ks rows)
 
 pub made_of_groups : (v : View) (side : Side) (by : List ℕ) (outs : List GroupOutput) (having : Option Filter)
     (rows : List (List Datum)) → v.outputs ≡ groups by outs having
-    → filter_map (made_row v side) rows ≡ filter_map (kept_row v side) rows
+    → filter_map (projected_row v side) rows ≡ filter_map (kept_row v side) rows
 made_of_groups v side by outs having rows is =
-    subst (λ (os : Outputs). filter_map (λ row. made_by os (kept_row v side row)) rows ≡ filter_map (kept_row v side) rows)
+    subst (λ (os : Outputs). filter_map (λ row. projected_by os (kept_row v side row)) rows ≡ filter_map (kept_row v side) rows)
     (sym is) refl
 
 -- A view of groups whose sub-groups move
@@ -336,13 +336,13 @@ made_of_groups v side by outs having rows is =
 some_is : {X : Type 0} (x y : X) → Some x ≡ Some y → x ≡ y
 some_is x y h = cc h
 
-groups_in : (k : Kept) (g : Ranked) (columns : List KeptColumn) → k ≡ kept.Groups g → columns_in k ≡ Some columns
+groups_in : (k : Materialized) (g : Ranked) (columns : List KeptColumn) → k ≡ kept.Groups g → columns_in k ≡ Some columns
     → g.groups.columns ≡ columns
 groups_in k g columns is counted =
-    some_is g.groups.columns columns (subst (λ (x : Kept). columns_in x ≡ Some columns) is counted)
+    some_is g.groups.columns columns (subst (λ (x : Materialized). columns_in x ≡ Some columns) is counted)
 
 module _ (values : ImageValues) (living : RowsAreLive) (left_out : OthersAreLeftOut) (tables : List Table) (v : View)
-    (s : SubGroups) (k : Kept) (g : Ranked) (slots : List Slot) (is : k ≡ kept.Groups g)
+    (s : SubGroups) (k : Materialized) (g : Ranked) (slots : List Slot) (is : k ≡ kept.Groups g)
     (right : AreLinks tables v k (links.SubGroups s)) (view : IsView tables v)
     (held : All (IsRow (table_at tables 0).columns) (live slots)) (few : length (live slots) ≤ max_main_rows)
     (linked : KeepsLinks (links.SubGroups s) (image (sub_row_of v) (numbered slots))) where
@@ -383,40 +383,40 @@ module _ (values : ImageValues) (living : RowsAreLive) (left_out : OthersAreLeft
         let same = ap length linked_are in omega (arith, few, short, same);
   }
 
-  pub can_move : (rows : NumberedRows) → IsKept v k rows → CanMove tables v s g
+  pub can_move : (rows : NumberedRows) → IsMaterialized v k rows → CanMove tables v s g
   can_move rows kept_by = record {
     right = of_sub;
-    keyed = (subst (λ (os : Outputs). IsKeptBy (ShowsEach v) (kept.Groups g) os v.order rows) of_sub.grouped
-        (subst (λ (x : Kept). IsKept v x rows) is kept_by)).0;
+    keyed = (subst (λ (os : Outputs). IsMaterializedBy (ShowsEach v) (kept.Groups g) os v.order rows) of_sub.grouped
+        (subst (λ (x : Materialized). IsMaterialized v x rows) is kept_by)).0;
     counted = groups_in k g s.groups.columns is right.1;
   }
 
-  made_are : (side : Side) → values_of (image (made_row v side) (numbered slots))
-      ≡ made_but v side s.groups.keys [] linked_rows
+  made_are : (side : Side) → values_of (image (projected_row v side) (numbered slots))
+      ≡ projected_but v side s.groups.keys [] linked_rows
   made_are side =
-      values (made_row v side) (numbered slots)
-      ∙ ap (filter_map (made_row v side)) (living slots)
+      values (projected_row v side) (numbered slots)
+      ∙ ap (filter_map (projected_row v side)) (living slots)
       ∙ made_of_groups v side of_sub.by of_sub.outputs of_sub.having (live slots) of_sub.grouped
       ∙ made_of_subs (table_at tables 0).columns v sub_by ordered left_out side (live slots) all_held
       ∙ ap (filter_map (kept_row v side)) (sym linked_are)
       ∙ sym (ap (filter_map (kept_row v side)) (none_out s.groups.keys linked_rows))
 
-  pub kept_of : (side : Side) → IsKept v k (image (made_row v side) (numbered slots))
-      → KeepsRanked g (made_but v side s.groups.keys [] linked_rows)
+  pub kept_of : (side : Side) → IsMaterialized v k (image (projected_row v side) (numbered slots))
+      → KeepsRanked g (projected_but v side s.groups.keys [] linked_rows)
   kept_of side kept_by =
       subst (KeepsRanked g) (made_are side)
-      (subst (λ (os : Outputs). IsKeptBy (ShowsEach v) (kept.Groups g) os v.order (image (made_row v side) (numbered slots)))
+      (subst (λ (os : Outputs). IsMaterializedBy (ShowsEach v) (kept.Groups g) os v.order (image (projected_row v side) (numbered slots)))
       of_sub.grouped
-      (subst (λ (x : Kept). IsKept v x (image (made_row v side) (numbered slots))) is kept_by)).3
+      (subst (λ (x : Materialized). IsMaterialized v x (image (projected_row v side) (numbered slots))) is kept_by)).3
 
-  pub kept_back : (h : Ranked) (side : Side) (rows : NumberedRows) → IsKept v k rows → h.groups.keys ≡ g.groups.keys
+  pub kept_back : (h : Ranked) (side : Side) (rows : NumberedRows) → IsMaterialized v k rows → h.groups.keys ≡ g.groups.keys
       → h.groups.columns ≡ g.groups.columns → h.ranking ≡ g.ranking
-      → KeepsRanked h (made_but v side s.groups.keys [] linked_rows)
-      → IsKept v (kept.Groups h) (image (made_row v side) (numbered slots))
+      → KeepsRanked h (projected_but v side s.groups.keys [] linked_rows)
+      → IsMaterialized v (kept.Groups h) (image (projected_row v side) (numbered slots))
   kept_back h side rows kept_by keys columns ranking kept_now =
-      let was = subst (λ (os : Outputs). IsKeptBy (ShowsEach v) (kept.Groups g) os v.order rows) of_sub.grouped
-      (subst (λ (x : Kept). IsKept v x rows) is kept_by) in
-      subst (λ (os : Outputs). IsKeptBy (ShowsEach v) (kept.Groups h) os v.order (image (made_row v side) (numbered slots)))
+      let was = subst (λ (os : Outputs). IsMaterializedBy (ShowsEach v) (kept.Groups g) os v.order rows) of_sub.grouped
+      (subst (λ (x : Materialized). IsMaterialized v x rows) is kept_by) in
+      subst (λ (os : Outputs). IsMaterializedBy (ShowsEach v) (kept.Groups h) os v.order (image (projected_row v side) (numbered slots)))
       (sym of_sub.grouped) (
         keys ∙ was.0,
         subst (λ (cs : List KeptColumn). All (λ o. IsKeptColumn cs o.aggregate) of_sub.outputs) (sym columns) was.1,
@@ -429,13 +429,13 @@ module _ (values : ImageValues) (living : RowsAreLive) (left_out : OthersAreLeft
       → ((t : List Key) → list_any (is_at (tuple_cmp t)) ts
       ≡ (begins_with_one named t && list_any (is_at (tuple_cmp t)) (keys_of s.groups.groups)))
       → ((d : Datum) → is_among d named ≡ false → a d ≡ b d)
-      → made_but v a s.groups.keys ts linked_rows ≡ made_but v b s.groups.keys ts linked_rows
+      → projected_but v a s.groups.keys ts linked_rows ≡ projected_but v b s.groups.keys ts linked_rows
   moved_alike a b named ts under same =
       let rest : List ℕ = filter (λ j. is_main (width_in tables) j && not (j == of_sub.look.on)) of_sub.by in
       let there = subst (λ (ks : List ℕ). AllByRecursion
       (λ row. list_any (is_at (tuple_cmp (tuple_of ks row))) (keys_of s.groups.groups) ≡ true) linked_rows)
       of_sub.keyed (all_grouped s linked_rows linked) in
-      subst (λ (ks : List ℕ). made_but v a ks ts linked_rows ≡ made_but v b ks ts linked_rows) (sym of_sub.keyed)
+      subst (λ (ks : List ℕ). projected_but v a ks ts linked_rows ≡ projected_but v b ks ts linked_rows) (sym of_sub.keyed)
       (rest_alike v of_sub.look a b rest named ts (keys_of s.groups.groups) of_sub.can.lookup under same linked_rows
       (each_keyed linked_rows each_by) there)
     where

@@ -62,7 +62,7 @@ use Rattle.group_state.proofs.Same.{keeps-same}
 use Rattle.sub_groups.specs.Places.{stand_row}
 use Rattle.sub_groups.specs.SubGroups.{ArePlaced, IsSubRow, SubGroupsArePlaced, SubGroupsPart, rows_but, sub_keys}
 use Rattle.sub_groups.specs.declared.sub_groups.SubGroups.{SubGroups}
-use Rattle.upkeep.specs.Moves.{AreGrouped, AreParted, CanMove, after_move, before_move, made_but, out_at}
+use Rattle.upkeep.specs.Moves.{AreGrouped, AreParted, CanMove, after_move, before_move, projected_but, out_at}
 use Rattle.upkeep.specs.ViewStates.{width_in}
 use Rattle.upkeep.specs.declared.view_state.Turn.{Turn}
 use Rattle.upkeep.specs.declared.view_state.Turn.TheVariants as turn
@@ -283,7 +283,7 @@ some_left p (r ∷ rs) = go (p r) (some_left p rs)
     go false h = omega (arith, h)
 
 made_but_few : (v : View) (side : Side) (keys : List ℕ) (out : List (List Key)) (rows : List (List Datum))
-    → length rows < max_appended_rows → length (made_but v side keys out rows) < max_appended_rows
+    → length rows < max_appended_rows → length (projected_but v side keys out rows) < max_appended_rows
 made_but_few v side keys out rows few =
     let one = made_few (kept_row v side) (rows_but keys out rows) in
     let two = some_left (λ row. not (list_any (is_at (tuple_cmp (tuple_of keys row))) out)) rows in
@@ -293,8 +293,8 @@ module _ (law : SubGroupsPart) (v : View) (side : Side) (keys : List ℕ) (rows 
     (few : length rows < max_appended_rows) (ts : List (List Key)) (ascending : IsStrictlySortedBy tuple_cmp ts) (i : ℕ)
     (t : List Key) (is : t ≡ get_or ts i t) (below : i < length ts) where
   pub next_parted : (u : Turn)
-      → AreParted v side keys t rows (made_but v side keys (all_out u i ts) rows)
-      (made_but v side keys (others_out u i ts) rows)
+      → AreParted v side keys t rows (projected_but v side keys (all_out u i ts) rows)
+      (projected_but v side keys (others_out u i ts) rows)
   next_parted turn.Go = record {
     together = law keys (kept_row v side) rows t (take i ts) (take (i + 1) ts) (taken_apart ts ascending i t is below)
         (taken_more ts ascending i t is below);
@@ -306,16 +306,16 @@ module _ (law : SubGroupsPart) (v : View) (side : Side) (keys : List ℕ) (rows 
     few = made_but_few v side keys (drop (i + 1) ts) rows few;
   }
 
-  pub next_before : (u : Turn) (g : Ranked) → KeepsRanked g (made_but v side keys (out_at u i ts) rows)
-      → KeepsRanked g (before_move u (made_but v side keys (all_out u i ts) rows)
-      (made_but v side keys (others_out u i ts) rows))
+  pub next_before : (u : Turn) (g : Ranked) → KeepsRanked g (projected_but v side keys (out_at u i ts) rows)
+      → KeepsRanked g (before_move u (projected_but v side keys (all_out u i ts) rows)
+      (projected_but v side keys (others_out u i ts) rows))
   next_before turn.Go g h = h
   next_before turn.Come g h = h
 
   pub next_after : (u : Turn) (g : Ranked)
-      → KeepsRanked g (after_move u (made_but v side keys (all_out u i ts) rows)
-      (made_but v side keys (others_out u i ts) rows))
-      → KeepsRanked g (made_but v side keys (out_at u (i + 1) ts) rows)
+      → KeepsRanked g (after_move u (projected_but v side keys (all_out u i ts) rows)
+      (projected_but v side keys (others_out u i ts) rows))
+      → KeepsRanked g (projected_but v side keys (out_at u (i + 1) ts) rows)
   next_after turn.Go g h = h
   next_after turn.Come g h = h
 

@@ -29,7 +29,7 @@ use Rattle.row_keys.specs.NumberLaws.{LiveCanGo, NumbersAscend, RowsAreAtNumbers
 use Rattle.row_keys.specs.Numbered.{live_at, numbered}
 use Rattle.row_keys.specs.Slots.{CanRetract, IsThere, Slot, live, marked, no_slot, row_of, slot}
 use Rattle.upkeep.specs.Touched.{refers_by}
-use Rattle.upkeep.specs.ViewStates.{looks_up, made_by, made_row, referring_by, referring_row}
+use Rattle.upkeep.specs.ViewStates.{looks_up, projected_by, projected_row, referring_by, referring_row}
 use Rattle.upkeep.proofs.SwappedRows.{row_marked}
 
 -- keys as values
@@ -230,15 +230,15 @@ looked_alike o l a b row is same =
     subst (λ (x : Option Lookup). looked_up x a row ≡ looked_up x b row) (sym is) same
 
 pub made_alike : (v : View) (a b : Side) (row : List Datum) → looked_up v.lookup a row ≡ looked_up v.lookup b row
-    → made_row v a row ≡ made_row v b row
+    → projected_row v a row ≡ projected_row v b row
 unfolding joined_row
 made_alike v a b row same =
-    ap (λ (found : Option (List Datum)). made_by v.outputs
+    ap (λ (found : Option (List Datum)). projected_by v.outputs
     (option_and_then (λ (r : List Datum). cond (passes v.filter r) (Some r) None) (joined_by v.lookup row found))) same
 
 pub left_alike : (v : View) (l : Lookup) (a b : Side) (keys : List Datum) (slots : List Slot) (ns : List ℕ)
     → v.lookup ≡ Some l → ((d : Datum) → is_among d keys ≡ false → a d ≡ b d) → AreReferring l keys slots ns
-    → (m : ℕ) (r : List Datum) → live_at slots m ≡ Some r → is_numbered ns m ≡ false → made_row v a r ≡ made_row v b r
+    → (m : ℕ) (r : List Datum) → live_at slots m ≡ Some r → is_numbered ns m ≡ false → projected_row v a r ≡ projected_row v b r
 left_alike v l a b keys slots ns is same are m r live apart =
     made_alike v a b r
     (looked_alike v.lookup l a b r is

@@ -21,7 +21,7 @@ use Rattle.lookups.specs.Refers.{is_among as is_numbered}
 use Rattle.row_keys.specs.NumberLaws.{Leads, NumbersAscend, RowsAreAtNumbers}
 use Rattle.row_keys.specs.Numbered.{live_at, numbered}
 use Rattle.row_keys.specs.Slots.{Slot, row_of}
-use Rattle.upkeep.specs.ViewStates.{remade_by}
+use Rattle.upkeep.specs.ViewStates.{reprojected_by}
 use Rattle.upkeep.proofs.RowByRow.{IsNext, few_next, sorted_patched, sorted_with}
 
 abbrev pub AreUp : NumberedRows → Type 0
@@ -105,7 +105,7 @@ module _ (f g : List Datum → Option (List Datum)) (slots : List Slot) where
   )
 
   in_turn : (ns : List ℕ) (rows : NumberedRows) → AreUp rows → IsStrictlySortedBy nat_cmp ns → are_made rows ns
-      → FitsInTurn rows (remade_by f g slots ns)
+      → FitsInTurn rows (reprojected_by f g slots ns)
   unfolding IsStrictlySortedBy
   in_turn [] rows up ascending made = tt
   in_turn (n ∷ ns) rows up ascending made = (
@@ -123,7 +123,7 @@ module _ (f g : List Datum → Option (List Datum)) (slots : List Slot) where
 
   -- what stands under a number then
   remade_at : (ns : List ℕ) (rows : NumberedRows) (m : ℕ) → AreUp rows
-      → row_at m (patched rows (remade_by f g slots ns))
+      → row_at m (patched rows (reprojected_by f g slots ns))
       ≡ cond (is_numbered ns m) (g (row_of slots m)) (row_at m rows)
   remade_at [] rows m up = refl
   remade_at (n ∷ ns) rows m up =
@@ -138,14 +138,14 @@ module _ (f g : List Datum → Option (List Datum)) (slots : List Slot) where
       → IsStrictlySortedBy nat_cmp ns
       → ((m : ℕ) → is_numbered ns m ≡ true → live_at slots m ≡ Some (row_of slots m))
       → ((m : ℕ) (r : List Datum) → live_at slots m ≡ Some r → is_numbered ns m ≡ false → f r ≡ g r)
-      → Leads (image f (numbered slots)) (remade_by f g slots ns) (image g (numbered slots))
+      → Leads (image f (numbered slots)) (reprojected_by f g slots ns) (image g (numbered slots))
   remade_leads at image_fits ascend numbers ns ascending lives others =
       let up_to : (h : List Datum → Option (List Datum)) → AreUp (image h (numbered slots)) =
       λ h. (image_fits h (numbered slots) [] (record { ascending = ascend slots; in_turn = tt })).ascending in
       let stands : (h : List Datum → Option (List Datum)) (m : ℕ)
       → row_at m (image h (numbered slots)) ≡ option_and_then h (live_at slots m) =
       λ h m. at h (numbered slots) m (ascend slots) ∙ ap (option_and_then h) (numbers slots m) in
-      let es : List Shift = remade_by f g slots ns in
+      let es : List Shift = reprojected_by f g slots ns in
       record {
         fits = record {
           ascending = up_to f;

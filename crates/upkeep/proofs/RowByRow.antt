@@ -27,17 +27,17 @@ use Rattle.upkeep.specs.Inputs.{side_by}
 use Rattle.upkeep.specs.StoreLaws.{rows_there, set_same, tables_length}
 use Rattle.upkeep.specs.Stores.{Rows, rows_at, rows_in, tables_in}
 use Rattle.upkeep.specs.ViewStates.{
-  IsKeptBy,
-  made_by,
-  made_change,
-  made_row,
+  IsMaterializedBy,
+  projected_by,
+  projected_change,
+  projected_row,
   link_change,
   link_row,
   turned,
   turned_by,
 }
-use Rattle.upkeep.specs.declared.view_state.Kept.{Kept}
-use Rattle.upkeep.specs.declared.view_state.Kept.TheVariants as kept
+use Rattle.upkeep.specs.declared.view_state.Materialized.{Materialized}
+use Rattle.upkeep.specs.declared.view_state.Materialized.TheVariants as kept
 use Rattle.upkeep.specs.declared.view_state.Links.{Links}
 use Rattle.upkeep.specs.declared.view_state.Turn.{Turn}
 use Rattle.upkeep.specs.declared.view_state.Turn.TheVariants as turn
@@ -224,15 +224,15 @@ module _ (stores now : List Store) (s s' read : Store) (v : View) (n visit : ℕ
       ∙ ap (λ (rs : Rows). row_of (rows_at rs 0) n) now_rows
 
   pub made_of_visited : (t : Turn) → (t ≡ turn.Go → (get_or (rows_at (rows_in stores) 0) n no_slot).live ≡ true)
-      → turned_by t n (made_row v (side_by (tables_in now) (rows_in now) v) row) ∷ []
-      ≡ made_change (tables_in stores) (rows_in stores) v t (n ∷ [])
+      → turned_by t n (projected_row v (side_by (tables_in now) (rows_in now) v) row) ∷ []
+      ≡ projected_change (tables_in stores) (rows_in stores) v t (n ∷ [])
   made_of_visited t live =
       let here : List Datum = row_of (rows_at (rows_in stores) 0) n in
       ap (λ o. turned_by t n o ∷ [])
-      (ap (made_row v (side_by (tables_in now) (rows_in now) v)) row_is
-      ∙ ap (λ (ts : List Table). made_row v (side_by ts (rows_in now) v) here) now_tables
-      ∙ ap (λ (rs : Rows). made_row v (side_by (tables_in stores) rs v) here) now_rows)
-      ∙ sym (live_change (made_row v (side_by (tables_in stores) (rows_in stores) v)) (rows_at (rows_in stores) 0) n t
+      (ap (projected_row v (side_by (tables_in now) (rows_in now) v)) row_is
+      ∙ ap (λ (ts : List Table). projected_row v (side_by ts (rows_in now) v) here) now_tables
+      ∙ ap (λ (rs : Rows). projected_row v (side_by (tables_in stores) rs v) here) now_rows)
+      ∙ sym (live_change (projected_row v (side_by (tables_in stores) (rows_in stores) v)) (rows_at (rows_in stores) 0) n t
       live)
 
   pub link_of_visited : (l : Links) (t : Turn)
@@ -251,19 +251,19 @@ same_change P Q one change same turned rows fits before =
 
 -- An order is kept of the rows that a plain view shows.
 pub order_turned :
-    (Each : Type 0) (os : Outputs) (outs : List Output) (order : List OrderBy) (k : Kept) (o o' : OrderedPlaces) (t : Turn) (n : ℕ)
+    (Each : Type 0) (os : Outputs) (outs : List Output) (order : List OrderBy) (k : Materialized) (o o' : OrderedPlaces) (t : Turn) (n : ℕ)
     (row : List Datum) → os ≡ columns outs → k ≡ kept.Order o → o'.order ≡ o.order
     → ((rows : NumberedRows) → Fits rows (turned_by t n (Some (shown_row outs row)) ∷ []) → KeepsOrder o rows
     → KeepsOrder o' (patched rows (turned_by t n (Some (shown_row outs row)) ∷ [])))
-    → (rows : NumberedRows) → Fits rows (turned_by t n (made_by os (Some row)) ∷ []) → IsKeptBy Each k os order rows
-    → IsKeptBy Each (kept.Order o') os order (patched rows (turned_by t n (made_by os (Some row)) ∷ []))
+    → (rows : NumberedRows) → Fits rows (turned_by t n (projected_by os (Some row)) ∷ []) → IsMaterializedBy Each k os order rows
+    → IsMaterializedBy Each (kept.Order o') os order (patched rows (turned_by t n (projected_by os (Some row)) ∷ []))
 order_turned Each os outs order k o o' t n row is there same turned rows fits before =
     let plain : Fits rows (turned_by t n (Some (shown_row outs row)) ∷ []) =
-    subst (λ (x : Outputs). Fits rows (turned_by t n (made_by x (Some row)) ∷ [])) is fits in
-    let was : IsKeptBy Each (kept.Order o) (columns outs) order rows =
-    subst (λ (x : Kept). IsKeptBy Each x (columns outs) order rows) there
-    (subst (λ (x : Outputs). IsKeptBy Each k x order rows) is before) in
-    subst (λ (x : Outputs). IsKeptBy Each (kept.Order o') x order (patched rows (turned_by t n (made_by x (Some row)) ∷ [])))
+    subst (λ (x : Outputs). Fits rows (turned_by t n (projected_by x (Some row)) ∷ [])) is fits in
+    let was : IsMaterializedBy Each (kept.Order o) (columns outs) order rows =
+    subst (λ (x : Materialized). IsMaterializedBy Each x (columns outs) order rows) there
+    (subst (λ (x : Outputs). IsMaterializedBy Each k x order rows) is before) in
+    subst (λ (x : Outputs). IsMaterializedBy Each (kept.Order o') x order (patched rows (turned_by t n (projected_by x (Some row)) ∷ [])))
     (sym is) (same ∙ was.0, turned rows plain was.1)
 
 -- what holds of the tables and rows of stores, however the stores are named

@@ -17,11 +17,11 @@ use Rattle.row_keys.specs.Slots.{IsLiveAt, Slot, live, row_of}
 use Rattle.row_keys.proofs.LiveRows.{held_long, live_row_is}
 use Rattle.row_keys.specs.Store.{Store, live_in}
 use Rattle.upkeep.specs.Inputs.{side_by}
-use Rattle.upkeep.specs.Reading.{AreShown, made_at}
+use Rattle.upkeep.specs.Reading.{AreShown, projected_at}
 use Rattle.upkeep.specs.Shown.{AreStored}
 use Rattle.upkeep.specs.StoreLaws.{rows_there, table_there}
 use Rattle.upkeep.specs.Stores.{rows_at, rows_in, tables_in}
-use Rattle.upkeep.specs.ViewStates.{made_by, made_row, width_in}
+use Rattle.upkeep.specs.ViewStates.{projected_by, projected_row, width_in}
 use Rattle.upkeep.specs.declared.shown.StoredColumns.{StoredColumns}
 
 abbrev column_of : Output → ℕ
@@ -75,7 +75,7 @@ kept_joined b (Some r) joined is = by (b r) is
 pub made_of : (v : View) (side : Side) (row made cells : List Datum) (os : Outputs) (outputs : List Output)
     (kept : Option (List Datum)) → os ≡ columns outputs → kept ≡ kept_row v side row
     → ((joined : List Datum) → joined_row v.lookup side row ≡ Some joined → shown_row outputs joined ≡ cells)
-    → made_by os kept ≡ Some made → made_by os kept ≡ Some cells
+    → projected_by os kept ≡ Some made → projected_by os kept ≡ Some cells
 made_of v side row made cells (groups by gs having) outputs kept plain whole shown is = absurd (cc)
 made_of v side row made cells (columns os) outputs None plain whole shown is = absurd (cc)
 made_of v side row made cells (columns os) outputs (Some joined) plain whole shown is =
@@ -89,10 +89,10 @@ module _ (v : View) (side : Side) (slots : List Slot) (outputs : List Output) (p
     (width : ℕ) (narrow : All (λ o. o.column < width) outputs)
     (wide : (n : ℕ) → IsLiveAt slots n → length (row_of slots n) ≡ width) where
   abbrev Made : ℕ → Type 0
-  Made n = (row : List Datum) × (made_row v side (row_of slots n) ≡ Some row)
+  Made n = (row : List Datum) × (projected_row v side (row_of slots n) ≡ Some row)
 
   made_one : (n : ℕ) → IsLiveAt slots n → Made n
-      → made_row v side (row_of slots n) ≡ Some (picked (map column_of outputs) (row_of slots n))
+      → projected_row v side (row_of slots n) ≡ Some (picked (map column_of outputs) (row_of slots n))
   made_one n lives made =
       let row : List Datum = row_of slots n in
       let P : ℕ → Type 0 = λ w. All (λ o. o.column < w) outputs in
@@ -101,12 +101,12 @@ module _ (v : View) (side : Side) (slots : List Slot) (outputs : List Output) (p
       (λ joined is. joined_shown v.lookup side row joined outputs below is) made.1
 
   pub made_all : (numbers : List ℕ) → All (IsLiveAt slots) numbers → All Made numbers
-      → picked_rows (map column_of outputs) (map (row_of slots) numbers) ≡ made_at v side slots numbers
+      → picked_rows (map column_of outputs) (map (row_of slots) numbers) ≡ projected_at v side slots numbers
   made_all [] lives made = refl
   made_all (n ∷ ns) lives made =
       ap (λ rows. picked (map column_of outputs) (row_of slots n) ∷ rows)
       (made_all ns (All-tail (IsLiveAt slots) n ns lives) (All-tail Made n ns made))
-      ∙ sym (ap (λ o. cons_option o (made_at v side slots ns))
+      ∙ sym (ap (λ o. cons_option o (projected_at v side slots ns))
       (made_one n (All-head (IsLiveAt slots) n ns lives) (All-head Made n ns made)))
 
 pub columns_stored :
@@ -130,7 +130,7 @@ columns_stored v side slots numbers outputs t width s plain coded width_is narro
       rows_are =
           ap (λ cs. picked_rows cs (map (row_of slots) s.visits)) columns_are
           ∙ ap (λ ns. picked_rows (map column_of outputs) (map (row_of slots) ns)) visits_are
-          ∙ made_all v side slots outputs plain width narrow wide numbers shown.each_live shown.each_made
+          ∙ made_all v side slots outputs plain width narrow wide numbers shown.each_live shown.each_projected
           ∙ shown.rows;
     }
 

@@ -28,7 +28,7 @@ use Rattle.upkeep.specs.Swaps.{CanSwap, swapped}
 use Rattle.row_keys.specs.HiddenChanges.{forgotten, hidden, named_keys, shown}
 use Rattle.row_keys.specs.TableChanges.{CanGoBack, IsChangeOf, Makes, back}
 use Rattle.upkeep.specs.Touched.{OpensOnce, refers, touched}
-use Rattle.upkeep.specs.ViewStates.{AreCurrent, AreLeftCurrent, AreMadeCurrent, DiffersAt, EachIsCurrent, IsBefore, stale_in, width_in}
+use Rattle.upkeep.specs.ViewStates.{AreCurrent, AreLeftCurrent, BecomeCurrent, DiffersAt, EachIsCurrent, IsBefore, stale_in, width_in}
 use Rattle.row_keys.specs.declared.table_change.TableChange.{TableChange}
 use Rattle.upkeep.specs.declared.view_state.Turn.{Turn}
 use Rattle.upkeep.specs.declared.view_state.Turn.TheVariants as turn
@@ -106,7 +106,7 @@ current_before ss views states n s t changed was =
 pub opened_live :
     (ss ss' : List Store) (views : List View) (states states' : List ViewState) (n : ℕ) (s t : Store)
     (u : Turn) (c : TableChange) → Changed ss n s t → HaveSameRows (slice_set ss n t) ss'
-    → live s.slots ≡ live (swapped u c t.slots) → AreMadeCurrent n u c (slice_set ss n t) views states states'
+    → live s.slots ≡ live (swapped u c t.slots) → BecomeCurrent n u c (slice_set ss n t) views states states'
     → AreLive ss views states → AreLive ss' views states'
 opened_live ss ss' views states states' n s t u c changed opened same made was =
     let ts = changed_tables ss n s t changed in

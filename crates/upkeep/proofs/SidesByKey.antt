@@ -65,7 +65,7 @@ use Rattle.upkeep.specs.StoreLaws.{rows_length, rows_there, table_there}
 use Rattle.upkeep.specs.Stores.{Rows, rows_at, rows_in, tables_in, world_of}
 use Rattle.upkeep.specs.Swaps.{swapped}
 use Rattle.upkeep.specs.Touched.{refers_by}
-use Rattle.upkeep.specs.ViewStates.{made_by, made_row, remade_by, remade_change, swapped_at}
+use Rattle.upkeep.specs.ViewStates.{projected_by, projected_row, reprojected_by, reprojected_change, swapped_at}
 use Rattle.row_keys.specs.declared.table_change.TableChange.{TableChange}
 use Rattle.upkeep.specs.declared.view_state.Turn.{Turn}
 use Rattle.upkeep.proofs.FollowedLookups.{world_here, world_placed}
@@ -151,20 +151,20 @@ made_with v row side found is = ap (kept_with v row) is
 
 made_of : (v : View) (given row : List Datum) (side : Side) (found made : Option (List Datum)) → given ≡ row
     → found ≡ looked_up v.lookup side given → made ≡ kept_with v given found
-    → made_by v.outputs made ≡ made_row v side row
+    → projected_by v.outputs made ≡ projected_row v side row
 made_of v given row side found made here looked is =
-    ap (made_by v.outputs) (is ∙ made_with v given side found looked) ∙ ap (made_row v side) here
+    ap (projected_by v.outputs) (is ∙ made_with v given side found looked) ∙ ap (projected_row v side) here
 
 pub remade_one :
     (v : View) (n : ℕ) (given row : List Datum) (before after : Side) (was_found is_found was_made is_made : Option (List Datum))
     → given ≡ row → was_found ≡ looked_up v.lookup before given → is_found ≡ looked_up v.lookup after given
     → was_made ≡ kept_with v given was_found → is_made ≡ kept_with v given is_found
-    → shift n (made_by v.outputs was_made) (made_by v.outputs is_made) ∷ []
-    ≡ shift n (made_row v before row) (made_row v after row) ∷ []
+    → shift n (projected_by v.outputs was_made) (projected_by v.outputs is_made) ∷ []
+    ≡ shift n (projected_row v before row) (projected_row v after row) ∷ []
 remade_one v n given row before after was_found is_found was_made is_made here looked_before looked_after was is =
-    ap (λ x. shift n x (made_by v.outputs is_made) ∷ [])
+    ap (λ x. shift n x (projected_by v.outputs is_made) ∷ [])
     (made_of v given row before was_found was_made here looked_before was)
-    ∙ ap (λ x. shift n (made_row v before row) x ∷ [])
+    ∙ ap (λ x. shift n (projected_row v before row) x ∷ [])
     (made_of v given row after is_found is_made here looked_after is)
 
 -- A row that refers to one of some keys looks up the same in a side table and in its rows under these keys.
@@ -190,10 +190,10 @@ module _ (tables : List Table) (n : ℕ) (u : Turn) (c : TableChange) (rows : Ro
     (are_before : AreOfKeys keys (side_of (table_at tables n) (contents_of (swapped u c (rows_at rows n)))) before)
     (are_after : AreOfKeys keys (side_of (table_at tables n) (contents_of (rows_at rows n))) after) where
   one_alike : (m : ℕ) → refers_by v.lookup n keys (row_of (rows_at rows 0) m) ≡ true
-      → shift m (made_row v (side_by tables (swapped_at n u c rows) v) (row_of (rows_at rows 0) m))
-      (made_row v (side_by tables rows v) (row_of (rows_at rows 0) m))
-      ≡ shift m (made_row v (side_of_rows before) (row_of (rows_at rows 0) m))
-      (made_row v (side_of_rows after) (row_of (rows_at rows 0) m))
+      → shift m (projected_row v (side_by tables (swapped_at n u c rows) v) (row_of (rows_at rows 0) m))
+      (projected_row v (side_by tables rows v) (row_of (rows_at rows 0) m))
+      ≡ shift m (projected_row v (side_of_rows before) (row_of (rows_at rows 0) m))
+      (projected_row v (side_of_rows after) (row_of (rows_at rows 0) m))
   one_alike m refers =
       let row : List Datum = row_of (rows_at rows 0) m in
       let was = made_alike v (side_by tables (swapped_at n u c rows) v) (side_of_rows before) row
@@ -202,18 +202,18 @@ module _ (tables : List Table) (n : ℕ) (u : Turn) (c : TableChange) (rows : Ro
       let is = made_alike v (side_by tables rows v) (side_of_rows after) row
       (looked_alike v.lookup n keys row after tables rows (rows_at rows n) (world_here rows n below) refers
       are_after) in
-      ap (λ x. shift m x (made_row v (side_by tables rows v) row)) was
-      ∙ ap (λ x. shift m (made_row v (side_of_rows before) row) x) is
+      ap (λ x. shift m x (projected_row v (side_by tables rows v) row)) was
+      ∙ ap (λ x. shift m (projected_row v (side_of_rows before) row) x) is
 
   pub changes_alike : (ns : List ℕ) → All (λ m. refers_by v.lookup n keys (row_of (rows_at rows 0) m) ≡ true) ns
-      → remade_change tables rows v n u c ns
-      ≡ remade_by (made_row v (side_of_rows before)) (made_row v (side_of_rows after)) (rows_at rows 0) ns
+      → reprojected_change tables rows v n u c ns
+      ≡ reprojected_by (projected_row v (side_of_rows before)) (projected_row v (side_of_rows after)) (rows_at rows 0) ns
   changes_alike [] refer = refl
   changes_alike (m ∷ ms) refer =
-      ap (λ s. s ∷ remade_change tables rows v n u c ms)
+      ap (λ s. s ∷ reprojected_change tables rows v n u c ms)
       (one_alike m (All-head (λ k. refers_by v.lookup n keys (row_of (rows_at rows 0) k) ≡ true) m ms refer))
-      ∙ ap (λ ss. shift m (made_row v (side_of_rows before) (row_of (rows_at rows 0) m))
-      (made_row v (side_of_rows after) (row_of (rows_at rows 0) m)) ∷ ss)
+      ∙ ap (λ ss. shift m (projected_row v (side_of_rows before) (row_of (rows_at rows 0) m))
+      (projected_row v (side_of_rows after) (row_of (rows_at rows 0) m)) ∷ ss)
       (changes_alike ms (All-tail (λ k. refers_by v.lookup n keys (row_of (rows_at rows 0) k) ≡ true) m ms refer))
 
 -- The same of the stores in which the side table lies, which are what they were.
@@ -223,8 +223,8 @@ pub changes_in :
     → AreOfKeys keys (side_of s.table (contents_of (swapped u c s.slots))) before
     → AreOfKeys keys (side_of s.table (contents_of s.slots)) after
     → All (λ m. refers_by v.lookup n keys (row_of (rows_at (rows_in stores) 0) m) ≡ true) ns
-    → remade_change (tables_in stores) (rows_in stores) v n u c ns
-    ≡ remade_by (made_row v (side_of_rows before)) (made_row v (side_of_rows after))
+    → reprojected_change (tables_in stores) (rows_in stores) v n u c ns
+    ≡ reprojected_by (projected_row v (side_of_rows before)) (projected_row v (side_of_rows after))
     (rows_at (rows_in (slice_set stores n t)) 0) ns
 changes_in stores n u c v keys before after s t ns is below same are_before are_after refer =
     let table : table_at (tables_in stores) n ≡ s.table = table_there stores n s is below in
@@ -237,5 +237,5 @@ changes_in stores n u c v keys before after s t ns is below same are_before are_
     (subst (λ (x : Table). P x (rows_at (rows_in stores) n)) (sym table) (subst (P s.table) (sym slots) are_before))
     (subst (λ (x : Table). Q x (rows_at (rows_in stores) n)) (sym table) (subst (Q s.table) (sym slots) are_after))
     ns refer
-    ∙ ap (λ (ss : List Store). remade_by (made_row v (side_of_rows before)) (made_row v (side_of_rows after))
+    ∙ ap (λ (ss : List Store). reprojected_by (projected_row v (side_of_rows before)) (projected_row v (side_of_rows after))
     (rows_at (rows_in ss) 0) ns) (sym (kept_store stores n s t is same))

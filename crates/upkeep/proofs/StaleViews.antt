@@ -7,7 +7,7 @@ use Rattle.std.proofs.lemmas.List.Elements.{All-cons, All-head, All-nil, All-tai
 use Rattle.std.proofs.lemmas.List.Sums.{sum_by-cons}
 use Rattle.view_lang.specs.Config.{Table, View}
 use Rattle.upkeep.specs.Stores.{Rows}
-use Rattle.upkeep.specs.ViewStates.{AreLinks, EachIsCurrent, IsKept, KeepsLinks, stale_in}
+use Rattle.upkeep.specs.ViewStates.{AreLinks, EachIsCurrent, IsMaterialized, KeepsLinks, stale_in}
 use Rattle.upkeep.specs.declared.view_state.ViewState.{ViewState}
 
 -- marked one after the other
@@ -42,7 +42,7 @@ counted (s ∷ ss) =
 
 current_more :
     (tables : List Table) (rows : Rows) (views : List View) (states : List ViewState) (v : View) (s : ViewState)
-    → EachIsCurrent tables rows [] views states → IsKept v s.kept []
+    → EachIsCurrent tables rows [] views states → IsMaterialized v s.kept []
     → AreLinks tables v s.kept s.links × KeepsLinks s.links []
     → EachIsCurrent tables rows [] (views ++ v ∷ []) (states ++ s ∷ [])
 current_more tables rows [] [] v s each kept links = (λ fresh. (kept, links), tt)
@@ -55,7 +55,7 @@ pub fresh_more :
     (tables : List Table) (rows : Rows) (views : List View) (i : ℕ) (old new : List ViewState) (v : View) (s :
     ViewState)
     → EachIsCurrent tables rows [] (take i views) old → i < length views → v ≡ get_or views i v
-    → IsKept v s.kept [] → AreLinks tables v s.kept s.links × KeepsLinks s.links [] → new ≡ old ++ s ∷ []
+    → IsMaterialized v s.kept [] → AreLinks tables v s.kept s.links × KeepsLinks s.links [] → new ≡ old ++ s ∷ []
     → EachIsCurrent tables rows [] (take (i + 1) views) new
 fresh_more tables rows views i old new v s each below at kept links more =
     let next : take (i + 1) views ≡ take i views ++ v ∷ [] =

@@ -9,8 +9,8 @@ use Rattle.view_lang.specs.Config.{View}
 use Rattle.view_lang.specs.Outputs.{Outputs, columns, groups}
 use Rattle.view_lang.specs.Views.{shown_row}
 use Rattle.view_lang.specs.declared.view.OrderBy.{OrderBy}
-use Rattle.upkeep.specs.declared.view_state.Kept.{Kept}
-use Rattle.upkeep.specs.declared.view_state.Kept.TheVariants as kept
+use Rattle.upkeep.specs.declared.view_state.Materialized.{Materialized}
+use Rattle.upkeep.specs.declared.view_state.Materialized.TheVariants as kept
 
 abbrev pub is_nested : Datum → Bool
 is_nested (list es) = true
@@ -27,19 +27,19 @@ differ_in a b column = not (are_same (cell_at a column) (cell_at b column))
 
 -- Whether the same is kept of two joined rows: they don't differ in a column by which a plain view orders its rows, or
 -- in one by which groups are made, or of which they keep something.
-abbrev pub are_kept_alike_by : Outputs → List OrderBy → Kept → List Datum → List Datum → Bool
-are_kept_alike_by (columns outputs) order (kept.Order o) a b =
+abbrev pub are_materialized_alike_by : Outputs → List OrderBy → Materialized → List Datum → List Datum → Bool
+are_materialized_alike_by (columns outputs) order (kept.Order o) a b =
     not (list_any (λ by. differ_in (shown_row outputs a) (shown_row outputs b) by.column) order)
-are_kept_alike_by (groups by outputs having) order (kept.Groups g) a b =
+are_materialized_alike_by (groups by outputs having) order (kept.Groups g) a b =
     not (list_any (differ_in a b) by) && not (list_any (λ c. differ_in a b c.column) g.groups.columns)
-are_kept_alike_by _ order k a b = false
+are_materialized_alike_by _ order k a b = false
 
-abbrev pub are_kept_alike : View → Kept → List Datum → List Datum → Bool
-are_kept_alike v k a b = are_kept_alike_by v.outputs v.order k a b
+abbrev pub are_materialized_alike : View → Materialized → List Datum → List Datum → Bool
+are_materialized_alike v k a b = are_materialized_alike_by v.outputs v.order k a b
 
 -- The same of rows that are there, or aren't: of two that aren't, nothing is kept.
-abbrev pub are_remade_alike : View → Kept → Option (List Datum) → Option (List Datum) → Bool
-are_remade_alike v k None None = true
-are_remade_alike v k None (Some b) = false
-are_remade_alike v k (Some a) None = false
-are_remade_alike v k (Some a) (Some b) = are_kept_alike v k a b
+abbrev pub are_reprojected_alike : View → Materialized → Option (List Datum) → Option (List Datum) → Bool
+are_reprojected_alike v k None None = true
+are_reprojected_alike v k None (Some b) = false
+are_reprojected_alike v k (Some a) None = false
+are_reprojected_alike v k (Some a) (Some b) = are_materialized_alike v k a b

@@ -40,26 +40,26 @@ cell_row cells k = option_map (λ cell. cell ∷ []) (slice_get cells k)
 
 -- Row k of a batch is this one: where the filter isn't true of it the view drops it, by what the main table decides
 -- alone, and it refers by cell k.
-pub record TellsRow (v : View) (a : Arrival) (k : ℕ) (row : List Datum) : Type 0 where
+pub record DescribesRow (v : View) (a : Arrival) (k : ℕ) (row : List Datum) : Type 0 where
   pub there : k < length a.truths
   pub dropped : is_true (get_or a.truths k None) ≡ false → IsDropped v row
   pub apart : is_true (get_or a.truths k None) ≡ false → passes_main (length row) v.filter row ≡ false
   pub refers : referring_by v.lookup row ≡ cell_row a.looked_up.items k
 
 -- the same, where anything is known
-abbrev pub TellsOf : View → Option Arrival → ℕ → List Datum → Type 0
-TellsOf v None k row = Unit {0}
-TellsOf v (Some a) k row = TellsRow v a k row
+abbrev pub DescribesSome : View → Option Arrival → ℕ → List Datum → Type 0
+DescribesSome v None k row = Unit {0}
+DescribesSome v (Some a) k row = DescribesRow v a k row
 
 -- of each of these rows
-abbrev pub Tells : View → List (List Datum) → Option Arrival → Type 0
-Tells v rows o = (k : ℕ) → k < length rows → TellsOf v o k (get_or rows k [])
+abbrev pub Describes : View → List (List Datum) → Option Arrival → Type 0
+Describes v rows o = (k : ℕ) → k < length rows → DescribesSome v o k (get_or rows k [])
 
 -- for each view of which something may be known
-abbrev pub EachTells : List View → List (List Datum) → List (Option Arrival) → Type 0
-EachTells views rows [] = Unit {0}
-EachTells [] rows (o ∷ os) = Unit {0}
-EachTells (v ∷ vs) rows (o ∷ os) = Tells v rows o × EachTells vs rows os
+abbrev pub EachDescribes : List View → List (List Datum) → List (Option Arrival) → Type 0
+EachDescribes views rows [] = Unit {0}
+EachDescribes [] rows (o ∷ os) = Unit {0}
+EachDescribes (v ∷ vs) rows (o ∷ os) = Describes v rows o × EachDescribes vs rows os
 
 -- These cells are those by which the rows refer to a side table; none where no table is looked up.
 abbrev pub AreReferring : Option Lookup → List (List Datum) → List Datum → Type 0

@@ -5,8 +5,8 @@ use Rattle.view_lang.specs.Config.{View}
 use Rattle.view_lang.specs.Limits.{max_appended_rows}
 use Rattle.view_lang.specs.Shifts.{Fits, IsFew, NumberedRows, Shift, patched}
 use Rattle.row_keys.specs.Store.{Store}
-use Rattle.upkeep.specs.ViewStates.{AreCurrentFor, IsCurrentFor, IsKept, KeepsLinks}
-use Rattle.upkeep.specs.declared.view_state.Kept.{Kept}
+use Rattle.upkeep.specs.ViewStates.{AreCurrentFor, IsCurrentFor, IsMaterialized, KeepsLinks}
+use Rattle.upkeep.specs.declared.view_state.Materialized.{Materialized}
 use Rattle.upkeep.specs.declared.view_state.Links.{Links}
 use Rattle.upkeep.specs.declared.view_state.ViewState.{ViewState}
 
@@ -27,8 +27,8 @@ abbrev pub CanFollowMain : (NumberedRows → Type 0) → List Shift → Type 0
 CanFollowMain keeps change = (rows : NumberedRows) × (keeps rows × (Fits rows change × (length rows ≤ max_main_rows)))
 
 -- what is kept of a view
-abbrev pub KeptFollows : View → Kept → Kept → List Shift → Type 0
-KeptFollows v old new change = Follows (IsKept v old) (IsKept v new) change
+abbrev pub MaterializedFollows : View → Materialized → Materialized → List Shift → Type 0
+MaterializedFollows v old new change = Follows (IsMaterialized v old) (IsMaterialized v new) change
 
 -- what links keep
 abbrev pub LinksFollow : Links → Links → List Shift → Type 0

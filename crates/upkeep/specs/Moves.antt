@@ -70,8 +70,8 @@ out_at turn.Go i ts = take i ts
 out_at turn.Come i ts = drop i ts
 
 -- what the view makes of the rows that are in none of these sub-groups
-abbrev pub made_but : View → Side → List ℕ → List (List Key) → List (List Datum) → List (List Datum)
-made_but v side keys out rows = filter_map (kept_row v side) (rows_but keys out rows)
+abbrev pub projected_but : View → Side → List ℕ → List (List Key) → List (List Datum) → List (List Datum)
+projected_but v side keys out rows = filter_map (kept_row v side) (rows_but keys out rows)
 
 -- the row by which the view places a sub-group
 abbrev pub stand_row_of : List Store → View → SubGroups → List Key → Option (List Datum)
@@ -79,7 +79,7 @@ stand_row_of stores v s t = stand_row (width_in (tables_in stores)) v (side_from
 
 -- Groups keep what the view makes of these rows, but for those of the sub-groups that are out.
 abbrev pub KeepsBut : List Store → View → SubGroups → Ranked → List (List Key) → List (List Datum) → Type 0
-KeepsBut stores v s groups out rows = KeepsRanked groups (made_but v (side_from stores v) s.groups.keys out rows)
+KeepsBut stores v s groups out rows = KeepsRanked groups (projected_but v (side_from stores v) s.groups.keys out rows)
 
 -- The sub-groups under these tuples can go from these groups, or come to them.
 abbrev pub CanTurnSubGroups : List Store → View → SubGroups → List (List Key) → Turn → Ranked → Type 0

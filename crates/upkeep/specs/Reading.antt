@@ -16,21 +16,21 @@ use Rattle.top_rows.specs.OrderedPlaces.{OrderedPlaces}
 use Rattle.top_rows.specs.ViewOrder.{AreFirst, IsKeptFor}
 use Rattle.row_keys.specs.Numbered.{numbered}
 use Rattle.row_keys.specs.Slots.{IsLiveAt, Slot, live, row_of}
-use Rattle.upkeep.specs.ViewStates.{IsKeptLive, made_row}
-use Rattle.upkeep.specs.declared.view_state.Kept.{Kept}
-use Rattle.upkeep.specs.declared.view_state.Kept.TheVariants as kept
+use Rattle.upkeep.specs.ViewStates.{IsMaterializedLive, projected_row}
+use Rattle.upkeep.specs.declared.view_state.Materialized.{Materialized}
+use Rattle.upkeep.specs.declared.view_state.Materialized.TheVariants as kept
 
 -- what a view makes of the rows of these numbers
-abbrev pub made_at : View → Side → List Slot → List ℕ → List (List Datum)
-made_at v side slots numbers = filter_map (λ n. made_row v side (row_of slots n)) numbers
+abbrev pub projected_at : View → Side → List Slot → List ℕ → List (List Datum)
+projected_at v side slots numbers = filter_map (λ n. projected_row v side (row_of slots n)) numbers
 
 -- What is kept of a view is made of the live rows of the main table, which can be viewed.
-pub record IsReadable (tables : List Table) (v : View) (side : Side) (slots : List Slot) (k : Kept) : Type 0 where
+pub record IsReadable (tables : List Table) (v : View) (side : Side) (slots : List Slot) (k : Materialized) : Type 0 where
   pub viewed : Viewed tables v side (live slots)
-  pub kept : IsKeptLive v k side slots
+  pub kept : IsMaterializedLive v k side slots
 
 -- This holds of the side table and of the rows wherever that is so.
-abbrev pub WhereReadable : View → Kept → (Side → List Slot → Type 0) → Type 0
+abbrev pub WhereReadable : View → Materialized → (Side → List Slot → Type 0) → Type 0
 WhereReadable v k P =
     (tables : List Table) (side : Side) (slots : List Slot) → IsReadable tables v side slots k → P side slots
 
@@ -49,8 +49,8 @@ GroupsAreShown =
 pub record AreShown (v : View) (side : Side) (slots : List Slot) (numbers : List ℕ) : Type 0 where
   pub there : All (λ n. n < length slots) numbers
   pub each_live : All (IsLiveAt slots) numbers
-  pub each_made : All (λ n. (row : List Datum) × (made_row v side (row_of slots n) ≡ Some row)) numbers
-  pub rows : made_at v side slots numbers ≡ view_rows v side (live slots)
+  pub each_projected : All (λ n. (row : List Datum) × (projected_row v side (row_of slots n) ≡ Some row)) numbers
+  pub rows : projected_at v side slots numbers ≡ view_rows v side (live slots)
   pub many : length numbers ≡ length (view_rows v side (live slots))
 
 -- So are those of the first live rows where the view shows each row, as many as it asks for. A view that shows all rows
@@ -65,6 +65,6 @@ abbrev pub FirstsAreShown : Type 0
 FirstsAreShown =
     (tables : List Table) (v : View) (side : Side) (slots : List Slot) (o : OrderedPlaces) (numbers : List ℕ)
     → IsReadable tables v side slots (kept.Order o)
-    → (IsKeptFor o (image (made_row v side) (numbered slots))
-    → AreFirst o.order (unwrap_or v.first max_main_rows) (image (made_row v side) (numbered slots)) numbers)
+    → (IsKeptFor o (image (projected_row v side) (numbered slots))
+    → AreFirst o.order (unwrap_or v.first max_main_rows) (image (projected_row v side) (numbered slots)) numbers)
     → AreShown v side slots numbers

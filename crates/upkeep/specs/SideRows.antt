@@ -15,7 +15,7 @@ use Rattle.view_lang.specs.Truth.{passes}
 use Rattle.lookups.specs.Refers.{key_cmp}
 use Rattle.row_keys.specs.Slots.{Slot}
 use Rattle.upkeep.specs.JoinedRows.{side_cells}
-use Rattle.upkeep.specs.ViewStates.{made_by, made_row, remade_by}
+use Rattle.upkeep.specs.ViewStates.{projected_by, projected_row, reprojected_by}
 use Rattle.upkeep.specs.declared.side_rows.SideRows.{SideRows}
 use Rattle.upkeep.specs.declared.sided_row.SidedRow.{SidedRow}
 
@@ -44,7 +44,7 @@ AreOfKeys keys side rows = (d : Datum) → is_among d keys ≡ true → side_of_
 -- table in the place of those before it
 abbrev pub sided_change : List Slot → View → SideRows → List ℕ → List Shift
 sided_change slots v sides ns =
-    remade_by (made_row v (side_of_rows sides.before.entries)) (made_row v (side_of_rows sides.after.entries)) slots ns
+    reprojected_by (projected_row v (side_of_rows sides.before.entries)) (projected_row v (side_of_rows sides.after.entries)) slots ns
 
 -- what a view makes of a row with this row of a side table, joined and filtered
 abbrev pub kept_with : View → List Datum → Option (List Datum) → Option (List Datum)
@@ -56,4 +56,4 @@ sided_cells s = s.main.now ++ side_cells (option_map (λ cells. cells.now) s.sid
 -- the change at a number where a view made one thing of a row of the main table, and makes another of it now
 abbrev pub sided_shift : View → ℕ → Option SidedRow → Option SidedRow → Shift
 sided_shift v n before after =
-    shift n (made_by v.outputs (option_map sided_cells before)) (made_by v.outputs (option_map sided_cells after))
+    shift n (projected_by v.outputs (option_map sided_cells before)) (projected_by v.outputs (option_map sided_cells after))

@@ -5,18 +5,18 @@ use Rattle.lookups.specs.ReferrersParts.{rows_with}
 use Rattle.lookups.specs.Refers.{IsOrdered}
 use Rattle.sub_groups.specs.SubGroups.{sub_groups_with}
 use Rattle.top_rows.specs.OrderParts.{AreAscending, ordered_with}
-use Rattle.upkeep.specs.declared.parts.KeptParts.{KeptParts}
-use Rattle.upkeep.specs.declared.parts.KeptParts.TheVariants as parts
+use Rattle.upkeep.specs.declared.parts.MaterializedParts.{MaterializedParts}
+use Rattle.upkeep.specs.declared.parts.MaterializedParts.TheVariants as parts
 use Rattle.upkeep.specs.declared.parts.LinksParts.{LinksParts}
 use Rattle.upkeep.specs.declared.parts.LinksParts.TheVariants as link_parts
 use Rattle.upkeep.specs.declared.parts.ViewParts.{ViewParts}
-use Rattle.upkeep.specs.declared.view_state.Kept.{Kept}
-use Rattle.upkeep.specs.declared.view_state.Kept.TheVariants as kept
+use Rattle.upkeep.specs.declared.view_state.Materialized.{Materialized}
+use Rattle.upkeep.specs.declared.view_state.Materialized.TheVariants as kept
 use Rattle.upkeep.specs.declared.view_state.Links.{Links}
 use Rattle.upkeep.specs.declared.view_state.Links.TheVariants as links
 use Rattle.upkeep.specs.declared.view_state.ViewState.{ViewState}
 
-abbrev pub kept_with : KeptParts → Kept
+abbrev pub kept_with : MaterializedParts → Materialized
 kept_with parts.Live = kept.Live
 kept_with (parts.Order o) = kept.Order (ordered_with o)
 kept_with (parts.Groups g) = kept.Groups (ranked_with g)
@@ -30,10 +30,10 @@ abbrev pub state_with : ViewParts → ViewState
 state_with p = record { stale = p.stale; kept = kept_with p.kept; links = links_with p.links }
 
 -- Places ascend, and groups are such as are kept of rows.
-abbrev pub IsKeptParts : KeptParts → Type 0
-IsKeptParts parts.Live = Unit {0}
-IsKeptParts (parts.Order o) = AreAscending o
-IsKeptParts (parts.Groups g) = AreRanked g
+abbrev pub AreMaterializedParts : MaterializedParts → Type 0
+AreMaterializedParts parts.Live = Unit {0}
+AreMaterializedParts (parts.Order o) = AreAscending o
+AreMaterializedParts (parts.Groups g) = AreRanked g
 
 -- Numbers ascend, and groups are such as are kept of rows.
 abbrev pub AreLinksParts : LinksParts → Type 0
@@ -42,5 +42,5 @@ AreLinksParts (link_parts.SubGroups g) = AreGroups g
 
 -- Something can be kept that has these parts.
 pub record IsState (p : ViewParts) : Type 0 where
-  pub kept : IsKeptParts p.kept
+  pub kept : AreMaterializedParts p.kept
   pub links : AreLinksParts p.links

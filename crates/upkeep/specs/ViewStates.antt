@@ -48,8 +48,8 @@ use Rattle.upkeep.specs.Inputs.{side_by, side_from}
 use Rattle.upkeep.specs.Stores.{Rows, rows_at, rows_in, tables_in}
 use Rattle.upkeep.specs.Swaps.{swapped}
 use Rattle.row_keys.specs.declared.table_change.TableChange.{TableChange}
-use Rattle.upkeep.specs.declared.view_state.Kept.{Kept}
-use Rattle.upkeep.specs.declared.view_state.Kept.TheVariants as kept
+use Rattle.upkeep.specs.declared.view_state.Materialized.{Materialized}
+use Rattle.upkeep.specs.declared.view_state.Materialized.TheVariants as kept
 use Rattle.upkeep.specs.declared.view_state.Links.{Links}
 use Rattle.upkeep.specs.declared.view_state.Links.TheVariants as links
 use Rattle.upkeep.specs.declared.view_state.Turn.{Turn}
@@ -58,13 +58,13 @@ use Rattle.upkeep.specs.declared.view_state.ViewState.{ViewState}
 
 -- What a view makes of a row of the main table: the row that a plain view shows of it, or the joined row that is
 -- grouped.
-abbrev pub made_by : Outputs → Option (List Datum) → Option (List Datum)
-made_by (columns outputs) joined = option_map (shown_row outputs) joined
-made_by (groups by outputs having) joined = joined
+abbrev pub projected_by : Outputs → Option (List Datum) → Option (List Datum)
+projected_by (columns outputs) joined = option_map (shown_row outputs) joined
+projected_by (groups by outputs having) joined = joined
 
 -- what a view makes of a row of the main table, joined and filtered; `None` where it isn't kept
-abbrev pub made_row : View → Side → List Datum → Option (List Datum)
-made_row v side row = made_by v.outputs (kept_row v side row)
+abbrev pub projected_row : View → Side → List Datum → Option (List Datum)
+projected_row v side row = projected_by v.outputs (kept_row v side row)
 
 -- whether a row stays for which the side table has no row
 abbrev pub stays : Missing → Bool
@@ -89,23 +89,23 @@ pub record ShowsEach (v : View) : Type 0 where
 
 -- What is kept is that of these numbered rows: their places in a view's order, or their groups and the places of the
 -- groups' rows in it; nothing is kept where the view shows each row.
-abbrev pub IsKeptBy : Type 0 → Kept → Outputs → List OrderBy → NumberedRows → Type 0
-IsKeptBy Each kept.Live outputs order rows = Each
-IsKeptBy Each (kept.Order o) (columns outputs) order rows = (o.order ≡ order) × KeepsOrder o rows
-IsKeptBy Each (kept.Order o) (groups by outputs having) order rows = ⊥
-IsKeptBy Each (kept.Groups g) (columns outputs) order rows = ⊥
-IsKeptBy Each (kept.Groups g) (groups by outputs having) order rows =
+abbrev pub IsMaterializedBy : Type 0 → Materialized → Outputs → List OrderBy → NumberedRows → Type 0
+IsMaterializedBy Each kept.Live outputs order rows = Each
+IsMaterializedBy Each (kept.Order o) (columns outputs) order rows = (o.order ≡ order) × KeepsOrder o rows
+IsMaterializedBy Each (kept.Order o) (groups by outputs having) order rows = ⊥
+IsMaterializedBy Each (kept.Groups g) (columns outputs) order rows = ⊥
+IsMaterializedBy Each (kept.Groups g) (groups by outputs having) order rows =
     (g.groups.keys ≡ by) × All (λ o. IsKeptColumn g.groups.columns o.aggregate) outputs
     × (g.ranking ≡ ranking_by outputs having order)
     × KeepsRanked g (values_of rows)
 
 -- What is kept of a view is that of these numbered rows.
-abbrev pub IsKept : View → Kept → NumberedRows → Type 0
-IsKept v k rows = IsKeptBy (ShowsEach v) k v.outputs v.order rows
+abbrev pub IsMaterialized : View → Materialized → NumberedRows → Type 0
+IsMaterialized v k rows = IsMaterializedBy (ShowsEach v) k v.outputs v.order rows
 
 -- What is kept of a view is made of those of these rows of the main table that are live.
-abbrev pub IsKeptLive : View → Kept → Side → List Slot → Type 0
-IsKeptLive v k side slots = IsKept v k (image (made_row v side) (numbered slots))
+abbrev pub IsMaterializedLive : View → Materialized → Side → List Slot → Type 0
+IsMaterializedLive v k side slots = IsMaterialized v k (image (projected_row v side) (numbered slots))
 
 -- the cell of a row of the main table that is looked up, if the view looks up a table
 abbrev pub referring_by : Option Lookup → List Datum → Option (List Datum)
@@ -136,7 +136,7 @@ IsDroppedLink (links.Rows r) cell row = row ≡ option_map (λ d. d ∷ []) cell
 IsDroppedLink (links.SubGroups s) cell row = row ≡ None
 
 -- the columns of which groups keep something
-abbrev pub columns_in : Kept → Option (List KeptColumn)
+abbrev pub columns_in : Materialized → Option (List KeptColumn)
 columns_in kept.Live = None
 columns_in (kept.Order o) = None
 columns_in (kept.Groups g) = Some g.groups.columns
@@ -156,7 +156,7 @@ width_in tables = width_at tables 0
 
 -- Sub-groups are kept of the views that can be kept by them, and of the columns of which the view's groups keep
 -- something; referrers are kept of the others.
-abbrev pub AreLinks : List Table → View → Kept → Links → Type 0
+abbrev pub AreLinks : List Table → View → Materialized → Links → Type 0
 AreLinks tables v k (links.Rows r) = is_moved (width_in tables) v ≡ false
 AreLinks tables v k (links.SubGroups s) =
     AreSubGroups (width_in tables) v s × (columns_in k ≡ Some s.groups.columns)
@@ -165,7 +165,7 @@ AreLinks tables v k (links.SubGroups s) =
 abbrev pub IsCurrent : List Table → View → Side → ViewState → NumberedRows → Type 0
 IsCurrent tables v side s rows =
     s.stale ≡ false
-    → IsKept v s.kept (image (made_row v side) rows)
+    → IsMaterialized v s.kept (image (projected_row v side) rows)
     × (AreLinks tables v s.kept s.links × KeepsLinks s.links (image (link_row s.links v) rows))
 
 abbrev pub EachIsCurrent : List Table → Rows → NumberedRows → List View → List ViewState → Type 0
@@ -202,8 +202,8 @@ abbrev pub turned_last : Turn → List Slot → ℕ → List Shift
 turned_last t slots n = turned t slots (last_numbers n slots)
 
 -- the change of what a view makes of these rows
-abbrev pub made_change : List Table → Rows → View → Turn → List ℕ → List Shift
-made_change tables rows v t ns = map (shift_image (made_row v (side_by tables rows v))) (turned t (rows_at rows 0) ns)
+abbrev pub projected_change : List Table → Rows → View → Turn → List ℕ → List Shift
+projected_change tables rows v t ns = map (shift_image (projected_row v (side_by tables rows v))) (turned t (rows_at rows 0) ns)
 
 -- the change of what links keep
 abbrev pub link_change : List Slot → Links → View → Turn → List ℕ → List Shift
@@ -224,14 +224,14 @@ abbrev pub swapped_at : ℕ → Turn → TableChange → Rows → Rows
 swapped_at n t c rows = slice_set rows n (swapped t c (rows_at rows n))
 
 -- the change of what is made of the rows of these numbers, where it was made by f and is made by g
-abbrev pub remade_by :
+abbrev pub reprojected_by :
     (List Datum → Option (List Datum)) → (List Datum → Option (List Datum)) → List Slot → List ℕ → List Shift
-remade_by f g slots ns = map (λ n. shift n (f (row_of slots n)) (g (row_of slots n))) ns
+reprojected_by f g slots ns = map (λ n. shift n (f (row_of slots n)) (g (row_of slots n))) ns
 
 -- the change of what a view makes of these rows where the change of a side table is turned
-abbrev pub remade_change : List Table → Rows → View → ℕ → Turn → TableChange → List ℕ → List Shift
-remade_change tables rows v n t c ns =
-    remade_by (made_row v (side_by tables (swapped_at n t c rows) v)) (made_row v (side_by tables rows v))
+abbrev pub reprojected_change : List Table → Rows → View → ℕ → Turn → TableChange → List ℕ → List Shift
+reprojected_change tables rows v n t c ns =
+    reprojected_by (projected_row v (side_by tables (swapped_at n t c rows) v)) (projected_row v (side_by tables rows v))
     (rows_at rows 0) ns
 
 -- The rows before the change of a table was turned: the other tables' are the same, and of the table those are live
@@ -241,14 +241,14 @@ pub record IsBefore (n : ℕ) (t : Turn) (c : TableChange) (old new : Rows) : Ty
   pub live_same : live (rows_at old n) ≡ live (swapped t c (rows_at new n))
 
 -- A view that was current before the change of a table was turned is so after it.
-abbrev pub IsMadeCurrent : ℕ → Turn → TableChange → List Store → View → ViewState → ViewState → Type 0
-IsMadeCurrent n t c stores v old new =
+abbrev pub BecomesCurrent : ℕ → Turn → TableChange → List Store → View → ViewState → ViewState → Type 0
+BecomesCurrent n t c stores v old new =
     (rows : Rows) → IsBefore n t c rows (rows_in stores) → IsCurrentWith (tables_in stores) rows v old
     → IsCurrentWith (tables_in stores) (rows_in stores) v new
 
 -- views that were
-abbrev pub AreMadeCurrent : ℕ → Turn → TableChange → List Store → List View → List ViewState → List ViewState → Type 0
-AreMadeCurrent n t c stores views old new =
+abbrev pub BecomeCurrent : ℕ → Turn → TableChange → List Store → List View → List ViewState → List ViewState → Type 0
+BecomeCurrent n t c stores views old new =
     (rows : Rows) → IsBefore n t c rows (rows_in stores) → AreCurrent (tables_in stores) rows views old
     → AreCurrent (tables_in stores) (rows_in stores) views new
 

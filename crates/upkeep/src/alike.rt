@@ -3,9 +3,9 @@
 ghost use Rattle.std.specs.Prelude.{◌≡◌};
 ghost use Rattle.std.specs.List.{list_any};
 ghost use Rattle.values.specs.CellViews.{viewed};
-ghost use Rattle.upkeep.specs.AlikeRows.{are_kept_alike, are_same, differ_in};
+ghost use Rattle.upkeep.specs.AlikeRows.{are_materialized_alike, are_same, differ_in};
 
-use crate::view_state::Kept;
+use crate::view_state::Materialized;
 use group_state::KeptColumn;
 use values::{CellView, cmp_cells};
 use view_lang::{OrderBy, Outputs, RowView, ShownRow, View};
@@ -53,7 +53,7 @@ fn differs_in_tuple<R: RowView>(columns: &[usize], a: &R, b: &R) -> bool
 }
 
 /// Whether two rows differ in a column of which groups keep something.
-fn differs_in_kept<R: RowView>(columns: &[KeptColumn], a: &R, b: &R) -> bool
+fn differs_in_columns<R: RowView>(columns: &[KeptColumn], a: &R, b: &R) -> bool
     ensures { result ≡ list_any (λ c. differ_in (R.cells a.now) (R.cells b.now) c.column) columns.now }
 {
     for kept in columns {
@@ -66,17 +66,22 @@ fn differs_in_kept<R: RowView>(columns: &[KeptColumn], a: &R, b: &R) -> bool
 
 /// Whether the same is kept of two joined rows that a view's filter keeps: they have the same cells in the columns by
 /// which the view orders its rows, or in those by which its groups are made and of which they keep something.
-pub(crate) fn is_kept_alike<R: RowView>(view: &View, kept: &Kept, a: &R, b: &R) -> bool
-    ensures { result ≡ are_kept_alike view.now kept.now (R.cells a.now) (R.cells b.now) }
+pub(crate) fn is_materialized_alike<R: RowView>(
+    view: &View,
+    kept: &Materialized,
+    a: &R,
+    b: &R,
+) -> bool
+    ensures { result ≡ are_materialized_alike view.now kept.now (R.cells a.now) (R.cells b.now) }
 {
     match (&view.outputs, kept) {
-        (Outputs::Columns(outputs), Kept::Order(_)) => {
+        (Outputs::Columns(outputs), Materialized::Order(_)) => {
             let shown_a = ShownRow { outputs, row: a };
             let shown_b = ShownRow { outputs, row: b };
             !differs_in_order(&view.order, &shown_a, &shown_b)
         }
-        (Outputs::Groups { by, .. }, Kept::Groups(groups)) => {
-            !differs_in_tuple(by, a, b) && !differs_in_kept(groups.columns(), a, b)
+        (Outputs::Groups { by, .. }, Materialized::Groups(groups)) => {
+            !differs_in_tuple(by, a, b) && !differs_in_columns(groups.columns(), a, b)
         }
         _ => false,
     }

@@ -5,7 +5,7 @@ ghost use Rattle.std.specs.Prelude.{count_by, false, length, map, slice_set, tru
 ghost use Rattle.row_keys.specs.Slots.{last_numbers};
 ghost use Rattle.view_lang.specs.Config.{Table};
 ghost use Rattle.view_lang.specs.Shifts.{NumberedRows};
-ghost use Rattle.upkeep.specs.Arrivals.{EachTells, last_rows, rows_of_numbers};
+ghost use Rattle.upkeep.specs.Arrivals.{EachDescribes, last_rows, rows_of_numbers};
 ghost use Rattle.upkeep.specs.Following.{CanFollow, CanFollowMain, ViewsFollow};
 ghost use Rattle.upkeep.specs.LiveParts.{AreOf};
 ghost use Rattle.upkeep.specs.Stores.{HaveSameRows, Rows, main_slots, visits_in};
@@ -82,7 +82,7 @@ fn follow_each(
     requires these { AreOf stores.old.items views.now }
     requires alike { length states.old.items ≡ length views.now }
     requires there { All (λ n. n < length (main_slots stores.old.items)) numbers.now }
-    requires known { EachTells views.now (rows_of_numbers (main_slots stores.old.items) numbers.now) arrivals.now }
+    requires known { EachDescribes views.now (rows_of_numbers (main_slots stores.old.items) numbers.now) arrivals.now }
     requires fits { CanFollow (AreCurrentFor stores.old.items views.now states.old.items)
         (turned turn (main_slots stores.old.items) numbers.now) }
     ensures kept { OnOk result (ViewsFollow stores.old.items views.now states.old.items states.new.items
@@ -119,7 +119,7 @@ pub(crate) fn follow_all(
 ) -> Result<(), AllocError>
     requires these { AreOf stores.old.items views.now }
     requires there { All (λ n. n < length (main_slots stores.old.items)) numbers.now }
-    requires known { EachTells views.now (rows_of_numbers (main_slots stores.old.items) numbers.now) arrivals.now }
+    requires known { EachDescribes views.now (rows_of_numbers (main_slots stores.old.items) numbers.now) arrivals.now }
     requires fits { CanFollow (AreCurrentFor stores.old.items views.now states.old.items)
         (turned turn (main_slots stores.old.items) numbers.now) }
     ensures kept { OnOk result (ViewsFollow stores.old.items views.now states.old.items states.new.items
@@ -155,7 +155,7 @@ fn follow_these(
     requires these { AreOf stores.old.items views.now }
     requires last { numbers.now ≡ last_numbers count (main_slots stores.old.items) }
     requires there { count ≤ length (main_slots stores.old.items) }
-    requires known { EachTells views.now (last_rows count (main_slots stores.old.items)) arrivals.now }
+    requires known { EachDescribes views.now (last_rows count (main_slots stores.old.items)) arrivals.now }
     requires fits { CanFollowMain (AreCurrentFor stores.old.items views.now states.old.items)
         (turned_last turn (main_slots stores.old.items) count) }
     ensures kept { OnOk result (ViewsFollow stores.old.items views.now states.old.items states.new.items
@@ -182,7 +182,7 @@ pub(crate) fn follow_last(
 ) -> Result<(), AllocError>
     requires these { AreOf stores.old.items views.now }
     requires there { count ≤ length (main_slots stores.old.items) }
-    requires known { EachTells views.now (last_rows count (main_slots stores.old.items)) arrivals.now }
+    requires known { EachDescribes views.now (last_rows count (main_slots stores.old.items)) arrivals.now }
     requires fits { CanFollowMain (AreCurrentFor stores.old.items views.now states.old.items)
         (turned_last turn (main_slots stores.old.items) count) }
     ensures kept { OnOk result (ViewsFollow stores.old.items views.now states.old.items states.new.items

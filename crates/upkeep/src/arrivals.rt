@@ -5,7 +5,7 @@ ghost use Rattle.std.specs.Prelude.{◌≡◌, ◌<◌, All, IfOk, get_or, lengt
 ghost use Rattle.std.specs.Option.{IfSome};
 ghost use Rattle.view_lang.specs.Truth.{is_true};
 ghost use Rattle.row_keys.specs.Batches.{batch_rows};
-ghost use Rattle.upkeep.specs.Arrivals.{AreReferring, EachTells, Tells};
+ghost use Rattle.upkeep.specs.Arrivals.{AreReferring, EachDescribes, Describes};
 
 use crate::view_state::ViewState;
 use arrays::Column;
@@ -86,7 +86,7 @@ fn arrival_for(
     rows: usize,
 ) -> Result<Option<Arrival>, AllocError>
     requires { All (λ c. length c.cells ≡ rows) columns.now }
-    ensures { IfOk result (λ arrival. Tells view.now (batch_rows rows columns.now) arrival) }
+    ensures { IfOk result (λ arrival. Describes view.now (batch_rows rows columns.now) arrival) }
 {
     first_cells_law();
     if state.stale {
@@ -125,7 +125,7 @@ pub(crate) fn arrivals_for(
 ) -> Result<Vec<Option<Arrival>>, AllocError>
     requires alike { length states.now ≡ length views.now }
     requires long { All (λ c. length c.cells ≡ rows) columns.now }
-    ensures { IfOk result (λ arrivals. EachTells views.now (batch_rows rows columns.now) arrivals.items) }
+    ensures { IfOk result (λ arrivals. EachDescribes views.now (batch_rows rows columns.now) arrivals.items) }
 {
     if !have_filter(views) {
         return Ok(Vec::new(alloc));

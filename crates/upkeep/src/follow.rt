@@ -23,20 +23,20 @@ ghost use Rattle.values.specs.Datum.{Datum};
 ghost use Rattle.view_lang.specs.ConfigRules.{IsView};
 ghost use Rattle.row_keys.specs.Numbered.{numbered};
 ghost use Rattle.row_keys.specs.Slots.{live, no_slot, row_of};
-ghost use Rattle.upkeep.specs.Arrivals.{Tells, TellsOf, opened_at, opened_first, rows_of_numbers};
-ghost use Rattle.upkeep.specs.Following.{CanFollow, CanTurn, KeptFollows, LinksFollow, ViewFollows};
+ghost use Rattle.upkeep.specs.Arrivals.{Describes, DescribesSome, opened_at, opened_first, rows_of_numbers};
+ghost use Rattle.upkeep.specs.Following.{CanFollow, CanTurn, MaterializedFollows, LinksFollow, ViewFollows};
 ghost use Rattle.upkeep.specs.Inputs.{side_from};
 ghost use Rattle.upkeep.specs.Stores.{HaveSameRows, main_slots, rows_in, tables_in, visits_in};
 ghost use Rattle.upkeep.specs.ViewStates.{
   IsCurrentFor,
   IsDroppedLink,
-  IsKept,
+  IsMaterialized,
   KeepsLinks,
   columns_in,
   form_of,
   link_change,
-  made_change,
-  made_row,
+  projected_change,
+  projected_row,
   turned,
   turned_by,
 };
@@ -45,7 +45,7 @@ ghost use Rattle.upkeep.specs.declared.view_state.Turn.TheVariants as turn_is;
 use crate::arrivals::Arrival;
 use crate::inputs::join_row;
 use crate::turning::{turn_joined, turn_link, turn_referrer};
-use crate::view_state::{Kept, Links, Turn, ViewState, keeps_nothing};
+use crate::view_state::{Links, Materialized, Turn, ViewState, materializes_nothing};
 use row_keys::{RowStore, StoredRow, numbers_law};
 use std::alloc::{AllocError, Global};
 use values::{KeyBuffer, Value};
@@ -56,20 +56,20 @@ use view_lang::{View, image_law};
 fn turn_main_row(
     stores: &[RowStore],
     view: &View,
-    kept: &mut Kept,
+    kept: &mut Materialized,
     turn: Turn,
     number: usize,
     row: StoredRow<'_>,
     keys: &mut KeyBuffer,
 ) -> Result<(), AllocError>
     requires view { IsView (tables_in stores.now) view.now }
-    requires fits { CanTurn (IsKept view.now kept.old) (turned_by turn number
-        (made_row view.now (side_from stores.now view.now) row) ∷ []) }
+    requires fits { CanTurn (IsMaterialized view.now kept.old) (turned_by turn number
+        (projected_row view.now (side_from stores.now view.now) row) ∷ []) }
     ensures columns { OnOk result (columns_in kept.new ≡ columns_in kept.old) }
-    ensures kept { OnOk result (KeptFollows view.now kept.old kept.new
-        (turned_by turn number (made_row view.now (side_from stores.now view.now) row.entry) ∷ [])) }
+    ensures kept { OnOk result (MaterializedFollows view.now kept.old kept.new
+        (turned_by turn number (projected_row view.now (side_from stores.now view.now) row.entry) ∷ [])) }
 {
-    if let Kept::Live = kept {
+    if let Materialized::Live = kept {
         return Ok(());
     }
     let joined = join_row(stores, view, row, keys)?;
@@ -130,13 +130,13 @@ fn follow_number(
     requires view { IsView (tables_in stores.old.items) view.now }
     requires main { 0 < length stores.old.items }
     requires there { number < length (main_slots stores.old.items) }
-    requires known { TellsOf view.now arrival.now index (row_of (main_slots stores.old.items) number) }
-    requires fits { CanTurn (IsKept view.now state.old.kept)
-        (made_change (tables_in stores.old.items) (rows_in stores.old.items) view.now turn (number ∷ [])) }
+    requires known { DescribesSome view.now arrival.now index (row_of (main_slots stores.old.items) number) }
+    requires fits { CanTurn (IsMaterialized view.now state.old.kept)
+        (projected_change (tables_in stores.old.items) (rows_in stores.old.items) view.now turn (number ∷ [])) }
     requires links { CanTurn (KeepsLinks state.old.links)
         (link_change (main_slots stores.old.items) state.old.links view.now turn (number ∷ [])) }
-    ensures kept { OnOk result (KeptFollows view.now state.old.kept state.new.kept
-        (made_change (tables_in stores.old.items) (rows_in stores.old.items) view.now turn (number ∷ []))) }
+    ensures kept { OnOk result (MaterializedFollows view.now state.old.kept state.new.kept
+        (projected_change (tables_in stores.old.items) (rows_in stores.old.items) view.now turn (number ∷ []))) }
     ensures columns { OnOk result (columns_in state.new.kept ≡ columns_in state.old.kept) }
     ensures links { OnOk result (LinksFollow state.old.links state.new.links
         (link_change (main_slots stores.old.items) state.old.links view.now turn (number ∷ []))) }
@@ -173,13 +173,13 @@ fn follow_numbers(
     requires view { IsView (tables_in stores.old.items) view.now }
     requires main { 0 < length stores.old.items }
     requires there { All (λ n. n < length (main_slots stores.old.items)) numbers.now }
-    requires known { Tells view.now (rows_of_numbers (main_slots stores.old.items) numbers.now) arrival.now }
-    requires fits { CanFollow (IsKept view.now state.old.kept)
-        (made_change (tables_in stores.old.items) (rows_in stores.old.items) view.now turn numbers.now) }
+    requires known { Describes view.now (rows_of_numbers (main_slots stores.old.items) numbers.now) arrival.now }
+    requires fits { CanFollow (IsMaterialized view.now state.old.kept)
+        (projected_change (tables_in stores.old.items) (rows_in stores.old.items) view.now turn numbers.now) }
     requires links { CanFollow (KeepsLinks state.old.links)
         (link_change (main_slots stores.old.items) state.old.links view.now turn numbers.now) }
-    ensures kept { OnOk result (KeptFollows view.now state.old.kept state.new.kept
-        (made_change (tables_in stores.old.items) (rows_in stores.old.items) view.now turn numbers.now)) }
+    ensures kept { OnOk result (MaterializedFollows view.now state.old.kept state.new.kept
+        (projected_change (tables_in stores.old.items) (rows_in stores.old.items) view.now turn numbers.now)) }
     ensures columns { OnOk result (columns_in state.new.kept ≡ columns_in state.old.kept) }
     ensures links { OnOk result (LinksFollow state.old.links state.new.links
         (link_change (main_slots stores.old.items) state.old.links view.now turn numbers.now)) }
@@ -220,7 +220,7 @@ pub(crate) fn follow(
     requires view { IsView (tables_in stores.old.items) view.now }
     requires main { 0 < length stores.old.items }
     requires there { All (λ n. n < length (main_slots stores.old.items)) numbers.now }
-    requires known { Tells view.now (rows_of_numbers (main_slots stores.old.items) numbers.now) arrival.now }
+    requires known { Describes view.now (rows_of_numbers (main_slots stores.old.items) numbers.now) arrival.now }
     requires fits { CanFollow (IsCurrentFor stores.old.items view.now state.old)
         (turned turn (main_slots stores.old.items) numbers.now) }
     ensures kept { OnOk result (ViewFollows stores.old.items view.now state.old state.new
@@ -238,7 +238,7 @@ pub(crate) fn follow(
     if state.stale {
         return Ok(());
     }
-    if keeps_nothing(view, state) {
+    if materializes_nothing(view, state) {
         return Ok(());
     }
     let followed = follow_numbers(alloc, stores, view, state, turn, numbers, arrival);

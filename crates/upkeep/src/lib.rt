@@ -29,5 +29,5 @@ mod view_state;
 mod viewed;
 
 pub use live_tables::LiveTables;
-pub use parts::{KeptParts, LinksParts, LiveTablesParts, ViewParts};
+pub use parts::{LinksParts, LiveTablesParts, MaterializedParts, ViewParts};
 pub use shown::{JoinedColumns, Shown, StoredColumns, are_many};

@@ -61,7 +61,7 @@ use crate::arrivals::arrivals_for;
 use crate::follow::rebuild;
 use crate::lookup_views::follow_lookups;
 use crate::parts::LiveTablesParts;
-use crate::reading::show_kept;
+use crate::reading::show_materialized;
 use crate::shown::Shown;
 use crate::swaps::swap;
 use crate::view_parts::{make_states, take_states};
@@ -462,7 +462,7 @@ impl LiveTables {
         self.refresh(place)?;
         let view = &self.views[place];
         viewed_law(&self.stores, view);
-        show_kept(self.alloc, &mut self.stores, view, &self.states[place])
+        show_materialized(self.alloc, &mut self.stores, view, &self.states[place])
     }
 
     /// How many columns the main table has. It takes no memory.

@@ -6,7 +6,7 @@ ghost use Rattle.view_lang.specs.ConfigRules.{IsView};
 ghost use Rattle.view_lang.specs.TableRules.{IsSideTable};
 ghost use Rattle.view_lang.specs.World.{table_at};
 ghost use Rattle.row_keys.specs.Slots.{row_of};
-ghost use Rattle.upkeep.specs.Following.{CanFollow, KeptFollows};
+ghost use Rattle.upkeep.specs.Following.{CanFollow, MaterializedFollows};
 ghost use Rattle.upkeep.specs.LiveParts.{AreOf};
 ghost use Rattle.upkeep.specs.Stores.{HaveSameRows, Rows, main_slots, rows_at, rows_in, tables_in, visits_in};
 ghost use Rattle.upkeep.specs.Swaps.{CanSwap};
@@ -15,21 +15,21 @@ ghost use Rattle.upkeep.specs.Touched.{count_opened, count_referring, refers_by}
 ghost use Rattle.upkeep.specs.ViewStates.{
   AreCurrent,
   AreLeftCurrent,
-  AreMadeCurrent,
+  BecomeCurrent,
   IsBefore,
   IsCurrentWith,
-  IsKept,
-  IsMadeCurrent,
+  IsMaterialized,
+  BecomesCurrent,
   looks_up,
   lookups_stale,
-  remade_change,
+  reprojected_change,
   stale_in,
 };
 
 use crate::remaking::remake_numbers;
 use crate::side_rows::side_rows;
 use crate::sub_group_moves::move_sub_groups;
-use crate::view_state::{Kept, Links, Turn, ViewState};
+use crate::view_state::{Links, Materialized, Turn, ViewState};
 use row_keys::{RowStore, TableChange, numbers_law};
 use std::alloc::{AllocError, Global};
 use values::{Key, key_law};
@@ -62,7 +62,7 @@ fn remake_rows(
     alloc: Global,
     stores: &mut Vec<RowStore>,
     view: &View,
-    kept: &mut Kept,
+    kept: &mut Materialized,
     table: usize,
     change: &TableChange,
     turn: Turn,
@@ -77,15 +77,15 @@ fn remake_rows(
     requires numbers { All (λ n. n < length (main_slots stores.old.items)) numbers.now }
     requires refer { All (λ n. refers_by view.now.lookup table (map datum_of_key keys.now)
         (row_of (main_slots stores.old.items) n) ≡ true) numbers.now }
-    requires fits { CanFollow (IsKept view.now kept.old) (remade_change (tables_in stores.old.items)
+    requires fits { CanFollow (IsMaterialized view.now kept.old) (reprojected_change (tables_in stores.old.items)
         (rows_in stores.old.items) view.now table turn change.now numbers.now) }
-    ensures kept { OnOk result (KeptFollows view.now kept.old kept.new
-        (remade_change (tables_in stores.old.items) (rows_in stores.old.items) view.now table turn change.now
+    ensures kept { OnOk result (MaterializedFollows view.now kept.old kept.new
+        (reprojected_change (tables_in stores.old.items) (rows_in stores.old.items) view.now table turn change.now
         numbers.now)) }
     ensures same_rows { HaveSameRows stores.old.items stores.new.items }
     ensures visits { visits_in stores.new.items ≤ visits_in stores.old.items + length numbers.now }
 {
-    if let Kept::Live = kept {
+    if let Materialized::Live = kept {
         return Ok(());
     }
     if numbers.is_empty() {
@@ -118,7 +118,7 @@ fn follow_lookup(
         (rows_at (rows_in stores.old.items) table) }
     requires current { (old : Rows) × IsBefore table turn change.now old (rows_in stores.old.items)
         × IsCurrentWith (tables_in stores.old.items) old view.now state.old }
-    ensures kept { OnOk result (IsMadeCurrent table turn change.now stores.old.items view.now state.old state.new) }
+    ensures kept { OnOk result (BecomesCurrent table turn change.now stores.old.items view.now state.old state.new) }
     ensures stale { OnOk result (state.new.stale ≡ state.old.stale) }
     ensures err { OnErr result (looks_up view.now.lookup table ≡ true) }
     ensures same_rows { HaveSameRows stores.old.items stores.new.items }
@@ -182,7 +182,7 @@ fn follow_lookups_of(
         (rows_at (rows_in stores.old.items) table) }
     requires current { (old : Rows) × IsBefore table turn change.now old (rows_in stores.old.items)
         × AreCurrent (tables_in stores.old.items) old views.now states.old.items }
-    ensures kept { OnOk result (AreMadeCurrent table turn change.now stores.old.items views.now states.old.items
+    ensures kept { OnOk result (BecomeCurrent table turn change.now stores.old.items views.now states.old.items
         states.new.items) }
     ensures stale { OnOk result (stale_in states.new.items ≡ stale_in states.old.items) }
     ensures err { OnErr result (AreLeftCurrent table turn change.now stores.old.items views.now states.old.items
@@ -231,7 +231,7 @@ pub(crate) fn follow_lookups(
         (rows_at (rows_in stores.old.items) table) }
     requires current { (old : Rows) × IsBefore table turn change.now old (rows_in stores.old.items)
         × AreCurrent (tables_in stores.old.items) old views.now states.old.items }
-    ensures kept { OnOk result (AreMadeCurrent table turn change.now stores.old.items views.now states.old.items
+    ensures kept { OnOk result (BecomeCurrent table turn change.now stores.old.items views.now states.old.items
         states.new.items) }
     ensures stale { OnOk result (stale_in states.new.items ≡ stale_in states.old.items) }
     ensures err { OnErr result (AreLeftCurrent table turn change.now stores.old.items views.now states.old.items

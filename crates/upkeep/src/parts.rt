@@ -11,7 +11,7 @@ use view_lang::View;
 #[derive(Debug, Drop)]
 pub struct ViewParts {
     pub stale: bool,
-    pub kept: KeptParts,
+    pub kept: MaterializedParts,
     pub links: LinksParts,
 }
 
@@ -26,7 +26,7 @@ pub enum LinksParts {
 
 /// What is kept of the rows that a view is made of: their order, or their groups.
 #[derive(Debug, Drop)]
-pub enum KeptParts {
+pub enum MaterializedParts {
     /// Nothing, of a plain view that shows each live row in its place.
     Live,
     /// The places of the rows of a plain view in its order.

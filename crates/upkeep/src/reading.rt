@@ -38,7 +38,7 @@ ghost use Rattle.upkeep.specs.Reading.{
   IsReadable,
   LiveAreShown,
   WhereReadable,
-  made_at,
+  projected_at,
 };
 ghost use Rattle.upkeep.specs.Stores.{
   HaveSameRows,
@@ -48,14 +48,14 @@ ghost use Rattle.upkeep.specs.Stores.{
   visits_in,
 };
 ghost use Rattle.upkeep.specs.Touched.{opened_of};
-ghost use Rattle.upkeep.specs.ViewStates.{IsCurrentFor, is_plain, made_row};
+ghost use Rattle.upkeep.specs.ViewStates.{IsCurrentFor, is_plain, projected_row};
 ghost use Rattle.upkeep.specs.ViewedRows.{IsViewed, ShowsView, rows_shown};
-ghost use Rattle.upkeep.specs.declared.view_state.Kept.TheVariants as kept;
+ghost use Rattle.upkeep.specs.declared.view_state.Materialized.TheVariants as kept;
 
 use crate::inputs::join_row;
 use crate::joined_row::JoinedRow;
 use crate::shown::{JoinedColumns, Shown, StoredColumns, are_many, shown_columns, shows_stored};
-use crate::view_state::{Kept, ViewState};
+use crate::view_state::{Materialized, ViewState};
 use group_order::RankedGroups;
 use row_keys::{RowStore, Visit, Visits, numbers_law};
 use std::alloc::{AllocError, Global};
@@ -92,7 +92,7 @@ fn make_row(
     requires main { 0 < length stores.old.items }
     requires there { number < length (main_slots stores.old.items) }
     ensures row { IfOk result (λ made. option_map (λ r. r.items) made
-        ≡ made_row view.now (side_from stores.old.items view.now) (row_of (main_slots stores.old.items) number)) }
+        ≡ projected_row view.now (side_from stores.old.items view.now) (row_of (main_slots stores.old.items) number)) }
     ensures same_rows { HaveSameRows stores.old.items stores.new.items }
     ensures visits { visits_in stores.new.items ≤ visits_in stores.old.items + 1 }
 {
@@ -130,7 +130,7 @@ fn make_rows(
     requires main { 0 < length stores.old.items }
     requires there { All (λ n. n < length (main_slots stores.old.items)) numbers.now }
     ensures rows { IfOk result (λ made. rows_of made.items
-        ≡ made_at view.now (side_from stores.old.items view.now) (main_slots stores.old.items) numbers.now) }
+        ≡ projected_at view.now (side_from stores.old.items view.now) (main_slots stores.old.items) numbers.now) }
     ensures same_rows { HaveSameRows stores.old.items stores.new.items }
     ensures visits { visits_in stores.new.items ≤ visits_in stores.old.items + length numbers.now }
 {
@@ -381,7 +381,7 @@ fn group_rows(alloc: Global, view: &View, groups: &RankedGroups) -> Result<Vec<R
 }
 
 /// What a view shows, out of what is kept of it, which isn't stale. A view of groups opens no row.
-pub(crate) fn show_kept(
+pub(crate) fn show_materialized(
     alloc: Global,
     stores: &mut Vec<RowStore>,
     view: &View,
@@ -399,8 +399,8 @@ pub(crate) fn show_kept(
         + opened_of view.now (side_from stores.old.items view.now) (main_slots stores.old.items) }
 {
     match &state.kept {
-        Kept::Live => show_live(alloc, stores, view),
-        Kept::Order(order) => show_first(alloc, stores, view, order),
-        Kept::Groups(groups) => Ok(Shown::Rows(group_rows(alloc, view, groups)?)),
+        Materialized::Live => show_live(alloc, stores, view),
+        Materialized::Order(order) => show_first(alloc, stores, view, order),
+        Materialized::Groups(groups) => Ok(Shown::Rows(group_rows(alloc, view, groups)?)),
     }
 }

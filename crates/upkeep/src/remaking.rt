@@ -2,17 +2,17 @@
 
 ghost use Rattle.std.specs.Prelude.{◌≡◌, ◌<◌, ◌≤◌, ◌+◌, [], ◌∷◌, All, OnOk, length, true};
 ghost use Rattle.std.specs.Option.{option_map};
-ghost use Rattle.upkeep.specs.AlikeRows.{are_remade_alike};
-ghost use Rattle.upkeep.specs.Following.{CanFollow, CanTurn, KeptFollows};
+ghost use Rattle.upkeep.specs.AlikeRows.{are_reprojected_alike};
+ghost use Rattle.upkeep.specs.Following.{CanFollow, CanTurn, MaterializedFollows};
 ghost use Rattle.upkeep.specs.SideRows.{sided_cells, sided_change, sided_shift};
 ghost use Rattle.upkeep.specs.Stores.{HaveSameRows, main_slots, visits_in};
-ghost use Rattle.upkeep.specs.ViewStates.{IsKept};
+ghost use Rattle.upkeep.specs.ViewStates.{IsMaterialized};
 
-use crate::alike::is_kept_alike;
+use crate::alike::is_materialized_alike;
 use crate::side_rows::{SideRows, row_for};
 use crate::sided_row::{SidedRow, keep_row};
 use crate::turning::turn_joined;
-use crate::view_state::{Kept, Turn};
+use crate::view_state::{Materialized, Turn};
 use row_keys::RowStore;
 use std::alloc::{AllocError, Global};
 use values::KeyBuffer;
@@ -20,18 +20,18 @@ use view_lang::View;
 
 /// Whether the same is kept of what a view made of a row, joined, and of what it makes of it now; `None` where it
 /// leaves the row out.
-fn is_remade_alike(
+fn is_reprojected_alike(
     view: &View,
-    kept: &Kept,
+    kept: &Materialized,
     before: &Option<SidedRow<'_>>,
     after: &Option<SidedRow<'_>>,
 ) -> bool
-    ensures { result ≡ are_remade_alike view.now kept.now (option_map sided_cells before.now)
+    ensures { result ≡ are_reprojected_alike view.now kept.now (option_map sided_cells before.now)
         (option_map sided_cells after.now) }
 {
     match (before, after) {
         (None, None) => true,
-        (Some(before), Some(after)) => is_kept_alike(view, kept, before, after),
+        (Some(before), Some(after)) => is_materialized_alike(view, kept, before, after),
         _ => false,
     }
 }
@@ -41,18 +41,18 @@ fn is_remade_alike(
 /// meaning.
 fn remake_row(
     view: &View,
-    kept: &mut Kept,
+    kept: &mut Materialized,
     number: usize,
     before: &Option<SidedRow<'_>>,
     after: &Option<SidedRow<'_>>,
 ) -> Result<(), AllocError>
-    requires { CanTurn (IsKept view.now kept.old) (sided_shift view.now number before.now after.now ∷ []) }
-    ensures kept { OnOk result (KeptFollows view.now kept.old kept.new
+    requires { CanTurn (IsMaterialized view.now kept.old) (sided_shift view.now number before.now after.now ∷ []) }
+    ensures kept { OnOk result (MaterializedFollows view.now kept.old kept.new
         (sided_shift view.now number before.now after.now ∷ [])) }
-    ensures left { are_remade_alike view.now kept.old (option_map sided_cells before.now)
+    ensures left { are_reprojected_alike view.now kept.old (option_map sided_cells before.now)
         (option_map sided_cells after.now) ≡ true → kept.new ≡ kept.old }
 {
-    if is_remade_alike(view, kept, before, after) {
+    if is_reprojected_alike(view, kept, before, after) {
         return Ok(());
     }
     turn_joined(view, kept, Turn::Go, number, before)?;
@@ -64,16 +64,16 @@ fn remake_row(
 fn remake_number(
     stores: &mut Vec<RowStore>,
     view: &View,
-    kept: &mut Kept,
+    kept: &mut Materialized,
     sides: &SideRows,
     number: usize,
     keys: &mut KeyBuffer,
 ) -> Result<(), AllocError>
     requires main { 0 < length stores.old.items }
     requires there { number < length (main_slots stores.old.items) }
-    requires fits { CanTurn (IsKept view.now kept.old) (sided_change (main_slots stores.old.items) view.now sides.now
+    requires fits { CanTurn (IsMaterialized view.now kept.old) (sided_change (main_slots stores.old.items) view.now sides.now
         (number ∷ [])) }
-    ensures kept { OnOk result (KeptFollows view.now kept.old kept.new
+    ensures kept { OnOk result (MaterializedFollows view.now kept.old kept.new
         (sided_change (main_slots stores.old.items) view.now sides.now (number ∷ []))) }
     ensures same_rows { HaveSameRows stores.old.items stores.new.items }
     ensures visits { visits_in stores.new.items ≤ visits_in stores.old.items + 1 }
@@ -93,15 +93,15 @@ pub(crate) fn remake_numbers(
     alloc: Global,
     stores: &mut Vec<RowStore>,
     view: &View,
-    kept: &mut Kept,
+    kept: &mut Materialized,
     sides: &SideRows,
     numbers: &[usize],
 ) -> Result<(), AllocError>
     requires main { 0 < length stores.old.items }
     requires there { All (λ n. n < length (main_slots stores.old.items)) numbers.now }
-    requires fits { CanFollow (IsKept view.now kept.old) (sided_change (main_slots stores.old.items) view.now sides.now
+    requires fits { CanFollow (IsMaterialized view.now kept.old) (sided_change (main_slots stores.old.items) view.now sides.now
         numbers.now) }
-    ensures kept { OnOk result (KeptFollows view.now kept.old kept.new
+    ensures kept { OnOk result (MaterializedFollows view.now kept.old kept.new
         (sided_change (main_slots stores.old.items) view.now sides.now numbers.now)) }
     ensures same_rows { HaveSameRows stores.old.items stores.new.items }
     ensures visits { visits_in stores.new.items ≤ visits_in stores.old.items + length numbers.now }

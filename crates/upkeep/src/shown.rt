@@ -35,15 +35,15 @@ pub struct JoinedColumns {
     pub side_numbers: Vec<Option<usize>>,
 }
 
-/// One in so many of a table's rows are many.
-const FEW: usize = 8;
+/// A view that shows at least one in this many of a table's rows is written column by column.
+const ONE_IN: usize = 8;
 
 /// Whether so many of all rows of a table are written sooner column by column, each from where it is stored, than row by
 /// row. What is found for that in each of the table's batches pays for many rows only.
 pub fn are_many(count: usize, all: usize) -> bool
     ensures { result ≡ nat_le (all / 8) count }
 {
-    count >= all / FEW
+    count >= all / ONE_IN
 }
 
 /// Whether a plain view with these outputs shows no more than columns of the main table, of which it has `width`, as

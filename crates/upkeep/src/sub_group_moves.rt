@@ -25,7 +25,7 @@ ghost use Rattle.upkeep.specs.Stores.{HaveSameRows, main_slots, rows_at, rows_in
 ghost use Rattle.upkeep.specs.Swaps.{CanSwap};
 ghost use Rattle.upkeep.specs.ViewStates.{
   AreLinks,
-  IsKeptLive,
+  IsMaterializedLive,
   KeepsLinks,
   columns_in,
   looks_up,
@@ -36,7 +36,7 @@ ghost use Rattle.upkeep.specs.declared.view_state.Links.TheVariants as links;
 
 use crate::inputs::look_up;
 use crate::swaps::swap;
-use crate::view_state::{Kept, Turn};
+use crate::view_state::{Materialized, Turn};
 use group_order::RankedGroups;
 use group_state::Tuple;
 use row_keys::{RowStore, StoredRow, TableChange, numbers_law};
@@ -219,7 +219,7 @@ pub(crate) fn move_sub_groups(
     alloc: Global,
     stores: &mut Vec<RowStore>,
     view: &View,
-    kept: &mut Kept,
+    kept: &mut Materialized,
     sub_groups: &SubGroups,
     table: usize,
     change: &TableChange,
@@ -233,11 +233,11 @@ pub(crate) fn move_sub_groups(
     requires swaps { CanSwap turn (table_at (tables_in stores.old.items) table) change.now
         (rows_at (rows_in stores.old.items) table) }
     requires right { AreLinks (tables_in stores.old.items) view.now kept.old (links.SubGroups sub_groups.now) }
-    requires kept { IsKeptLive view.now kept.old (side_by (tables_in stores.old.items)
+    requires kept { IsMaterializedLive view.now kept.old (side_by (tables_in stores.old.items)
         (swapped_at table turn change.now (rows_in stores.old.items)) view.now) (main_slots stores.old.items) }
     requires links { KeepsLinks (links.SubGroups sub_groups.now)
         (image (sub_row_of view.now) (numbered (main_slots stores.old.items))) }
-    ensures kept { OnOk result (IsKeptLive view.now kept.new (side_from stores.old.items view.now)
+    ensures kept { OnOk result (IsMaterializedLive view.now kept.new (side_from stores.old.items view.now)
         (main_slots stores.old.items)) }
     ensures columns { OnOk result (columns_in kept.new ≡ columns_in kept.old) }
     ensures same_rows { HaveSameRows stores.old.items stores.new.items }
@@ -248,7 +248,7 @@ pub(crate) fn move_sub_groups(
     numbers_law();
     sub_group_law();
     stores[0].rows_law();
-    let Kept::Groups(groups) = kept else {
+    let Materialized::Groups(groups) = kept else {
         unreachable!()
     };
     let cells = stores[table].named_cells(change)?;

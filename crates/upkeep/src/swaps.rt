@@ -18,7 +18,7 @@ impl Turn {
     }
 }
 
-/// Takes back a change of a side table, or makes it again, as `turn` says. It takes no memory.
+/// Hides a change of a side table that was made (`Come`), or shows one that was hidden (`Go`). It takes no memory.
 pub(crate) fn swap(store: &mut RowStore, change: &TableChange, turn: Turn)
     requires { CanSwap turn store.old.table change.now store.old.slots }
     ensures slots { store.new ≡ with_slots store.old (swapped turn change.now store.old.slots) }

@@ -10,20 +10,20 @@ ghost use Rattle.group_order.specs.Ranked.{Keeps as KeepsRanked};
 ghost use Rattle.lookups.specs.Keeping.{Keeps as KeepsReferrers};
 ghost use Rattle.top_rows.specs.Keeping.{Keeps as KeepsOrder};
 ghost use Rattle.sub_groups.specs.SubGroups.{IsSame, KeepsSubGroups};
-ghost use Rattle.upkeep.specs.Following.{CanTurn, Follows, KeptFollows, LinksFollow};
+ghost use Rattle.upkeep.specs.Following.{CanTurn, Follows, MaterializedFollows, LinksFollow};
 ghost use Rattle.upkeep.specs.ViewStates.{
-  IsKept,
+  IsMaterialized,
   KeepsLinks,
   columns_in,
   form_of,
   link_row,
-  made_by,
+  projected_by,
   referring_by,
   sub_row_of,
   turned_by,
 };
 
-use crate::view_state::{Kept, Links, Turn};
+use crate::view_state::{Links, Materialized, Turn};
 use group_order::RankedGroups;
 use lookups::Referrers;
 use row_keys::StoredRow;
@@ -88,24 +88,24 @@ fn turn_groups<R: RowView>(
 /// Brings what is kept of a view up to a joined row that the view's filter keeps. After an error it has no meaning.
 fn turn_row<R: RowView>(
     view: &View,
-    kept: &mut Kept,
+    kept: &mut Materialized,
     turn: Turn,
     number: usize,
     row: &R,
 ) -> Result<(), AllocError>
-    requires { CanTurn (IsKept view.now kept.old) (turned_by turn number
-        (made_by view.now.outputs (Some (R.cells row.now))) ∷ []) }
+    requires { CanTurn (IsMaterialized view.now kept.old) (turned_by turn number
+        (projected_by view.now.outputs (Some (R.cells row.now))) ∷ []) }
     ensures columns { OnOk result (columns_in kept.new ≡ columns_in kept.old) }
-    ensures kept { OnOk result (KeptFollows view.now kept.old kept.new
-        (turned_by turn number (made_by view.now.outputs (Some (R.cells row.now))) ∷ [])) }
+    ensures kept { OnOk result (MaterializedFollows view.now kept.old kept.new
+        (turned_by turn number (projected_by view.now.outputs (Some (R.cells row.now))) ∷ [])) }
 {
     match (&view.outputs, kept) {
-        (_, Kept::Live) => return Ok(()),
-        (Outputs::Columns(outputs), Kept::Order(order)) => {
+        (_, Materialized::Live) => return Ok(()),
+        (Outputs::Columns(outputs), Materialized::Order(order)) => {
             turn_order(order, outputs, turn, number, row)?;
             return Ok(());
         }
-        (Outputs::Groups { .. }, Kept::Groups(groups)) => {
+        (Outputs::Groups { .. }, Materialized::Groups(groups)) => {
             turn_groups(groups, turn, number, row)?;
             return Ok(());
         }
@@ -117,16 +117,16 @@ fn turn_row<R: RowView>(
 /// view leaves the row out. After an error what is kept has no meaning.
 pub(crate) fn turn_joined<R: RowView>(
     view: &View,
-    kept: &mut Kept,
+    kept: &mut Materialized,
     turn: Turn,
     number: usize,
     joined: &Option<R>,
 ) -> Result<(), AllocError>
-    requires { CanTurn (IsKept view.now kept.old) (turned_by turn number
-        (made_by view.now.outputs (option_map R.cells joined.now)) ∷ []) }
+    requires { CanTurn (IsMaterialized view.now kept.old) (turned_by turn number
+        (projected_by view.now.outputs (option_map R.cells joined.now)) ∷ []) }
     ensures columns { OnOk result (columns_in kept.new ≡ columns_in kept.old) }
-    ensures kept { OnOk result (KeptFollows view.now kept.old kept.new
-        (turned_by turn number (made_by view.now.outputs (option_map R.cells joined.now)) ∷ [])) }
+    ensures kept { OnOk result (MaterializedFollows view.now kept.old kept.new
+        (turned_by turn number (projected_by view.now.outputs (option_map R.cells joined.now)) ∷ [])) }
 {
     let Some(row) = joined else {
         return Ok(());

@@ -1,38 +1,42 @@
 //! Takes what is kept of views apart, and makes it again of its parts.
 
 ghost use Rattle.std.specs.Prelude.{◌≡◌, All, IfOk, map};
-ghost use Rattle.upkeep.specs.ViewParts.{AreLinksParts, IsKeptParts, IsState, kept_with, links_with, state_with};
+ghost use Rattle.upkeep.specs.ViewParts.{AreLinksParts, AreMaterializedParts, IsState, kept_with, links_with, state_with};
 
-use crate::parts::{KeptParts, LinksParts, ViewParts};
-use crate::view_state::{Kept, Links, ViewState};
+use crate::parts::{LinksParts, MaterializedParts, ViewParts};
+use crate::view_state::{Links, Materialized, ViewState};
 use group_order::RankedGroups;
 use lookups::Referrers;
 use std::alloc::{AllocError, Global};
 use sub_groups::SubGroups;
 use top_rows::Ordered;
 
-impl Kept {
+impl Materialized {
     /// Takes it apart. If memory is refused, it is lost.
-    fn into_parts(self) -> Result<KeptParts, AllocError>
+    fn into_parts(self) -> Result<MaterializedParts, AllocError>
         ensures value { IfOk result (λ parts. kept_with parts ≡ self) }
-        ensures kept { IfOk result (λ parts. IsKeptParts parts) }
+        ensures kept { IfOk result (λ parts. AreMaterializedParts parts) }
     {
         match self {
-            Kept::Live => Ok(KeptParts::Live),
-            Kept::Order(order) => Ok(KeptParts::Order(order.into_parts()?)),
-            Kept::Groups(groups) => Ok(KeptParts::Groups(groups.into_parts()?)),
+            Materialized::Live => Ok(MaterializedParts::Live),
+            Materialized::Order(order) => Ok(MaterializedParts::Order(order.into_parts()?)),
+            Materialized::Groups(groups) => Ok(MaterializedParts::Groups(groups.into_parts()?)),
         }
     }
 
     /// Makes what has these parts.
-    fn from_parts(alloc: Global, parts: KeptParts) -> Result<Kept, AllocError>
-        requires { IsKeptParts parts }
+    fn from_parts(alloc: Global, parts: MaterializedParts) -> Result<Materialized, AllocError>
+        requires { AreMaterializedParts parts }
         ensures { IfOk result (λ kept. kept ≡ kept_with parts) }
     {
         match parts {
-            KeptParts::Live => Ok(Kept::Live),
-            KeptParts::Order(order) => Ok(Kept::Order(Ordered::from_parts(alloc, order)?)),
-            KeptParts::Groups(groups) => Ok(Kept::Groups(RankedGroups::from_parts(alloc, groups)?)),
+            MaterializedParts::Live => Ok(Materialized::Live),
+            MaterializedParts::Order(order) => Ok(Materialized::Order(Ordered::from_parts(
+                alloc, order,
+            )?)),
+            MaterializedParts::Groups(groups) => Ok(Materialized::Groups(RankedGroups::from_parts(
+                alloc, groups,
+            )?)),
         }
     }
 }
@@ -83,7 +87,7 @@ impl ViewState {
         ensures { IfOk result (λ state. state ≡ state_with parts) }
     {
         let ViewParts { stale, kept, links } = parts;
-        let kept = Kept::from_parts(alloc, kept)?;
+        let kept = Materialized::from_parts(alloc, kept)?;
         let links = Links::from_parts(alloc, links)?;
         Ok(ViewState { stale, kept, links })
     }

@@ -6,7 +6,7 @@ ghost use Rattle.view_lang.specs.Config.{Table};
 ghost use Rattle.sub_groups.specs.Moved.{KeepRead};
 ghost use Rattle.upkeep.specs.ViewStates.{
   AreLinks,
-  IsKept,
+  IsMaterialized,
   KeepsLinks,
   ShowsEach,
   columns_in,
@@ -14,7 +14,7 @@ ghost use Rattle.upkeep.specs.ViewStates.{
   leaves_none,
   width_in,
 };
-ghost use Rattle.upkeep.specs.declared.view_state.Kept.TheVariants as kept_is;
+ghost use Rattle.upkeep.specs.declared.view_state.Materialized.TheVariants as materialized_is;
 
 use group_order::{RankedGroups, Ranking};
 use lookups::Referrers;
@@ -25,7 +25,7 @@ use view_lang::{Lookup, Missing, Outputs, View};
 
 /// What is kept of the rows that a view is made of: their order, or their groups and the order of the groups' rows.
 #[derive(Debug, Drop)]
-pub(crate) enum Kept {
+pub(crate) enum Materialized {
     /// Nothing, of a plain view that shows each row in its place: the numbers of the live rows are its order.
     Live,
     /// The places of the rows of a plain view in its order.
@@ -46,7 +46,7 @@ pub(crate) enum Turn {
 #[derive(Debug, Drop)]
 pub(crate) struct ViewState {
     pub stale: bool,
-    pub kept: Kept,
+    pub kept: Materialized,
     pub links: Links,
 }
 
@@ -93,46 +93,51 @@ fn shows_each(view: &View) -> bool
 }
 
 /// What is kept of a view of no rows.
-fn kept_of_none(alloc: Global, view: &View) -> Result<Kept, AllocError>
-    ensures kept { IfOk result (λ kept. IsKept view.now kept []) }
+fn materialized_of_none(alloc: Global, view: &View) -> Result<Materialized, AllocError>
+    ensures kept { IfOk result (λ kept. IsMaterialized view.now kept []) }
     ensures read { IfOk result (λ kept. IfSome (columns_in kept) (KeepRead view.now.outputs)) }
 {
     if shows_each(view) {
-        return Ok(Kept::Live);
+        return Ok(Materialized::Live);
     }
     match &view.outputs {
-        Outputs::Columns(_) => Ok(Kept::Order(Ordered::new(alloc, &view.order)?)),
+        Outputs::Columns(_) => Ok(Materialized::Order(Ordered::new(alloc, &view.order)?)),
         Outputs::Groups {
             by,
             columns,
             having,
         } => {
             let ranking = Ranking::of(alloc, columns, having, &view.order)?;
-            Ok(Kept::Groups(RankedGroups::new(alloc, by, ranking)?))
+            Ok(Materialized::Groups(RankedGroups::new(alloc, by, ranking)?))
         }
     }
 }
 
 /// Whether nothing is kept of a view and of what refers for it: rows come and go without it.
-pub(crate) fn keeps_nothing(view: &View, state: &ViewState) -> bool
-    ensures { result ≡ true → (state.now.kept ≡ kept_is.Live) × (view.now.lookup ≡ None) }
+pub(crate) fn materializes_nothing(view: &View, state: &ViewState) -> bool
+    ensures { result ≡ true → (state.now.kept ≡ materialized_is.Live) × (view.now.lookup ≡ None) }
 {
     match (&state.kept, view.lookup) {
-        (Kept::Live, None) => true,
+        (Materialized::Live, None) => true,
         _ => false,
     }
 }
 
 /// What is kept of no rows by the key that they look up, for a view of which this is kept. The main table has `width`
 /// columns.
-fn links_of_none(alloc: Global, view: &View, width: usize, kept: &Kept) -> Result<Links, AllocError>
-    requires kept { IsKept view.now kept.now [] }
+fn links_of_none(
+    alloc: Global,
+    view: &View,
+    width: usize,
+    kept: &Materialized,
+) -> Result<Links, AllocError>
+    requires kept { IsMaterialized view.now kept.now [] }
     requires read { IfSome (columns_in kept.now) (KeepRead view.now.outputs) }
     ensures right { IfOk result (λ links. (tables : List Table) → width ≡ width_in tables
         → AreLinks tables view.now kept.now links) }
     ensures kept { IfOk result (λ links. KeepsLinks links []) }
 {
-    let Kept::Groups(groups) = kept else {
+    let Materialized::Groups(groups) = kept else {
         return Ok(Links::Rows(Referrers::new(alloc)));
     };
     match SubGroups::of(alloc, view, width, groups.columns())? {
@@ -145,12 +150,12 @@ impl ViewState {
     /// The state of a view of no rows. The main table has `width` columns.
     pub(crate) fn new(alloc: Global, view: &View, width: usize) -> Result<ViewState, AllocError>
         ensures fresh { IfOk result (λ s. s.stale ≡ false) }
-        ensures kept { IfOk result (λ s. IsKept view.now s.kept []) }
+        ensures kept { IfOk result (λ s. IsMaterialized view.now s.kept []) }
         ensures right { IfOk result (λ s. (tables : List Table) → width ≡ width_in tables
             → AreLinks tables view.now s.kept s.links) }
         ensures links { IfOk result (λ s. KeepsLinks s.links []) }
     {
-        let kept = kept_of_none(alloc, view)?;
+        let kept = materialized_of_none(alloc, view)?;
         let links = links_of_none(alloc, view, width, &kept)?;
         Ok(ViewState {
             stale: false,

@@ -4,8 +4,8 @@ ghost use Rattle.std.specs.Prelude.{◌≡◌, ◌<◌, ◌≤◌, ◌++◌, IfE
 ghost use Rattle.std.specs.Option.{option_map};
 ghost use Rattle.schema_meta.specs.Story.{story_of};
 ghost use Rattle.feed.specs.Shown.{event_seen};
-ghost use Rattle.liveviews.specs.Inspect.{Account, Tells, account_of, refusal_line, status_where};
-ghost use Rattle.liveviews.specs.Inspecting.{Breaks, HasRun, HasTaken, IsFresh, IsLeft, IsOpen};
+ghost use Rattle.liveviews.specs.Inspect.{Account, ReportsAccount, account_of, refusal_line, status_where};
+ghost use Rattle.liveviews.specs.Inspecting.{Breaks, HasRun, HasConsumed, IsFresh, IsLeft, IsOpen};
 ghost use Rattle.liveviews.specs.Files.{InspectsFile};
 ghost use Rattle.liveviews.specs.Source.{OfSource};
 ghost use Rattle.liveviews.specs.Lines.{ended_after, given_lines};
@@ -106,7 +106,7 @@ impl Inspection {
         source: &mut R,
     ) -> Result<Result<(), StreamFault>, FileFault>
         requires fresh { IsFresh self.old }
-        ensures { IfOk result (λ taken. OfSource (R.remaining source.old) (HasTaken self.new taken)) }
+        ensures { IfOk result (λ taken. OfSource (R.remaining source.old) (HasConsumed self.new taken)) }
     {
         let mut room = room(alloc)?;
         for _ in 0..u64::MAX {
@@ -124,7 +124,7 @@ impl Inspection {
     /// Ends the input, and writes the line of its end.
     fn end(&mut self) -> Result<(), StreamFault>
         requires open { IsOpen self.old }
-        ensures complete { OnOk result ((a : Account) → IsLeft a self.old [] → Tells a (string_bytes self.new.text) 0) }
+        ensures complete { OnOk result ((a : Account) → IsLeft a self.old [] → ReportsAccount a (string_bytes self.new.text) 0) }
         ensures fault { IfErr result (λ f. (a : Account) → IsLeft a self.old []
             → Breaks a (string_bytes self.new.text) f) }
     {
@@ -140,7 +140,7 @@ impl Inspection {
     /// Writes the lines of a whole stream, with the line of its end.
     fn run(&mut self, input: &[u8]) -> Result<(), StreamFault>
         requires fresh { IsFresh self.old }
-        ensures complete { OnOk result (Tells (account_of input.now) (string_bytes self.new.text) 0) }
+        ensures complete { OnOk result (ReportsAccount (account_of input.now) (string_bytes self.new.text) 0) }
         ensures fault { IfErr result (Breaks (account_of input.now) (string_bytes self.new.text)) }
     {
         self.take_all(input)?;
@@ -177,7 +177,7 @@ fn write_refusal(text: &mut String, fault: StreamFault) -> Result<(), AllocError
 /// memory.
 fn told(mut text: String, ran: Result<(), StreamFault>) -> Result<Inspected, AllocError>
     ensures { IfOk result (λ i. (input : List ℕ) → HasRun (string_bytes text) ran input
-        → Tells (account_of input) (string_bytes i.text) i.status) }
+        → ReportsAccount (account_of input) (string_bytes i.text) i.status) }
 {
     match ran {
         Ok(()) => Ok(Inspected { text, status: 0 }),
@@ -196,7 +196,7 @@ fn told(mut text: String, ran: Result<(), StreamFault>) -> Result<Inspected, All
 /// Where a fault stands, the lines of the messages before it come first. The limits on rows and on their weights, 44
 /// and 45, are not checked. The error is want of memory.
 pub fn inspect(alloc: Global, input: &[u8]) -> Result<Inspected, AllocError>
-    ensures tells { IfOk result (λ i. Tells (account_of input.now) (string_bytes i.text) i.status) }
+    ensures tells { IfOk result (λ i. ReportsAccount (account_of input.now) (string_bytes i.text) i.status) }
     ensures status { IfOk result (λ i. i.status ≡ status_where (story_of input.now).end) }
 {
     // It does nothing: the proof takes from it that a fault stands in the stream where its account ends with one.

@@ -41,7 +41,7 @@ impl<'a> Refusal<'a> {
     }
 
     /// The refusal where the file at `path` could not be made.
-    pub(crate) fn unmade(fault: FileFault, path: &'a str) -> Refusal<'a>
+    pub(crate) fn not_created(fault: FileFault, path: &'a str) -> Refusal<'a>
         ensures { result ≡ refusal_for (CannotWrite path.entry) fault }
     {
         match fault {

@@ -7,8 +7,8 @@ ghost use Rattle.body_writer.specs.RowRanges.{rows_of};
 ghost use Rattle.stream_writer.specs.Sinks.{Writes};
 ghost use Rattle.stream_writer.specs.Stream.{canon};
 ghost use Rattle.stream_writer.specs.Table.{IsTable};
-ghost use Rattle.liveviews.specs.Taken.{AreTaken};
-ghost use Rattle.liveviews.specs.Kept.{IsCounted, IsKept, IsWritable, taken_rows};
+ghost use Rattle.liveviews.specs.Taken.{AreAccepted};
+ghost use Rattle.liveviews.specs.Buffered.{IsCounted, IsBuffered, IsWritable, buffered_rows};
 ghost use Rattle.liveviews.specs.Refused.{RefusesBatch};
 
 use crate::recasting::batch::columns_law;
@@ -21,19 +21,19 @@ use values::{Cause, Schema};
 
 /// The batches of a stream so far, with the number of their rows, and a weight that none of the rows is above.
 #[derive(Drop)]
-pub(crate) struct KeptBatches {
+pub(crate) struct BufferedBatches {
     pub batches: Vec<Batch>,
     pub rows: usize,
     pub heaviest: u64,
 }
 
-impl KeptBatches {
+impl BufferedBatches {
     /// No batches.
-    pub fn new(alloc: Global) -> KeptBatches
+    pub fn new(alloc: Global) -> BufferedBatches
         ensures counted { IsCounted result }
         ensures none { result.batches.items ≡ [] }
     {
-        KeptBatches {
+        BufferedBatches {
             batches: Vec::new(alloc),
             rows: 0,
             heaviest: 0,
@@ -46,12 +46,12 @@ impl KeptBatches {
         requires cells { All (λ c. length c.cells ≡ count) columns.items }
         requires counted { IsCounted self.old }
         ensures counted { OnOk result (IsCounted self.new) }
-        ensures rows { OnOk result (taken_rows self.new ≡ taken_rows self.old
+        ensures rows { OnOk result (buffered_rows self.new ≡ buffered_rows self.old
             ++ rows_in count (cells_in columns.items)) }
-        ensures taken { OnOk result (AreTaken (layouts_in columns.items) (taken_rows self.old)
-            → AreTaken (layouts_in columns.items) (taken_rows self.new)) }
-        ensures kept { OnOk result (IsKept (length columns.items) (layouts_in columns.items) self.old
-            → IsKept (length columns.items) (layouts_in columns.items) self.new) }
+        ensures taken { OnOk result (AreAccepted (layouts_in columns.items) (buffered_rows self.old)
+            → AreAccepted (layouts_in columns.items) (buffered_rows self.new)) }
+        ensures kept { OnOk result (IsBuffered (length columns.items) (layouts_in columns.items) self.old
+            → IsBuffered (length columns.items) (layouts_in columns.items) self.new) }
         ensures refused { IfErr result
             (RefusesBatch (layouts_in columns.items) (rows_in count (cells_in columns.items)) self.old.rows) }
     {
@@ -79,11 +79,11 @@ impl KeptBatches {
         sink: &mut S,
         schema: &Schema,
     ) -> Result<u64, WriteFault>
-        requires table { IsTable schema.now.fields.items (taken_rows self.now) }
+        requires table { IsTable schema.now.fields.items (buffered_rows self.now) }
         requires counted { IsCounted self.now }
         requires kept { IsWritable schema.now.fields.items self.now }
         ensures { Writes (S.sunk sink.old) (S.sunk sink.new) result
-            (canon schema.now.fields.items (taken_rows self.now)) }
+            (canon schema.now.fields.items (buffered_rows self.now)) }
     {
         if self.heaviest <= MAX_LIGHT_ROW {
             return write_batches(alloc, sink, schema, &self.batches, self.rows);

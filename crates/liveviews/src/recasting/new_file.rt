@@ -24,14 +24,14 @@ pub(crate) fn recast_file<'a, F: Files>(
     to: &'a str,
     files: &mut F,
 ) -> Result<u64, Refusal<'a>>
-    ensures { Ends (F.content files.old from.now) (F.sunk files.old) (F.sunk files.new) (F.unmade files.new) result }
+    ensures { Ends (F.content files.old from.now) (F.sunk files.old) (F.sunk files.new) (F.not_created files.new) result }
 {
     files.print_aside(to == STANDARD);
     let mut input = open_file(from, files)?;
     match files.begin_new(to) {
         Ok(Some(file)) => recast_to_new(alloc, &mut input, from, file, to, files),
         Ok(None) => recast_to_named(alloc, &mut input, from, to, files),
-        Err(fault) => Err(Refusal::unmade(fault, to)),
+        Err(fault) => Err(Refusal::not_created(fault, to)),
     }
 }
 
@@ -49,7 +49,7 @@ pub fn recast_to_new<'a, F: Files>(
 ) -> Result<u64, Refusal<'a>>
     requires begins { F.New.sunk file ≡ F.sunk files.old }
     ensures ends { (held : Option (List ℕ)) → HoldsFile held (F.Input.remaining input.old)
-        → Ends held (F.sunk files.old) (F.sunk files.new) (F.unmade files.new) result }
+        → Ends held (F.sunk files.old) (F.sunk files.new) (F.not_created files.new) result }
     ensures placed { OnOk result ((bytes : List ℕ) → Appends (F.sunk files.old).taken (F.sunk files.new).taken bytes
         → Replaces (F.content files.old) (F.content files.new) to.now bytes) }
     ensures same { OnErr result (F.content files.new ≡ F.content files.old) }
@@ -75,10 +75,10 @@ fn recast_to_named<'a, F: Files>(
     files: &mut F,
 ) -> Result<u64, Refusal<'a>>
     ensures { (held : Option (List ℕ)) → HoldsFile held (F.Input.remaining input.old)
-        → Ends held (F.sunk files.old) (F.sunk files.new) (F.unmade files.new) result }
+        → Ends held (F.sunk files.old) (F.sunk files.new) (F.not_created files.new) result }
 {
     if let Err(fault) = files.create(to) {
-        return Err(Refusal::unmade(fault, to));
+        return Err(Refusal::not_created(fault, to));
     }
     match recast_from(alloc, input, files) {
         Ok(written) => Ok(written),
@@ -89,10 +89,10 @@ fn recast_to_named<'a, F: Files>(
 
 /// The refusal of a recast that failed: `CannotWrite` where the file at `to` could not be made.
 fn stopped<'a, F: Files>(files: &F, fault: RecastFault, to: &'a str) -> Refusal<'a>
-    ensures { IsStopped (CannotWrite to.entry) (F.unmade files.now) fault.cause result }
+    ensures { IsStopped (CannotWrite to.entry) (F.not_created files.now) fault.cause result }
 {
     match (fault.cause, files.fault()) {
-        (Cause::Device, Some(unmade)) => Refusal::unmade(unmade, to),
+        (Cause::Device, Some(not_created)) => Refusal::not_created(not_created, to),
         (cause, _) => Refusal::Refused(cause),
     }
 }

@@ -21,7 +21,7 @@ ghost use Rattle.body_writer.specs.RowRanges.{batch_rows};
 ghost use Rattle.stream_writer.specs.Sinks.{Sunk};
 ghost use Rattle.stream_writer.specs.Weights.{HasSizes};
 ghost use Rattle.liveviews.specs.Source.{OfSource};
-ghost use Rattle.liveviews.specs.Steps.{IsOpen, IsTaken};
+ghost use Rattle.liveviews.specs.Steps.{IsOpen, IsConsumed};
 ghost use Rattle.liveviews.specs.Streams.{
   HasStreamed,
   HasWritten,
@@ -267,7 +267,7 @@ fn finish<S: Sink>(
         → Streams start (S.sunk sink.new) result (story_of input) }
     ensures accepted { OnOk result ((start : Sunk) (input : List ℕ)
         → HasStreamed start (S.sunk sink.old) (story_of input) feed.old streaming.old []
-        → IsTaken (story_of input)) }
+        → IsConsumed (story_of input)) }
 {
     // It does nothing: the proof takes from it that what is written is read back.
     recast_law();
@@ -294,7 +294,7 @@ pub fn recast_through<R: Read, S: Sink>(
 
     // On Ok no limit is passed either, as `recast` says it.
     ensures accepted { OnOk result (OfSource (R.remaining source.old)
-        (λ input. IsTaken (story_of input))) }
+        (λ input. IsConsumed (story_of input))) }
 {
     // They do nothing: the proof takes from them that nothing is told before the first byte.
     first_message_law();

@@ -1,19 +1,19 @@
 //! Reads a whole stream into a table.
 
 ghost use Rattle.std.specs.Prelude.{◌≡◌, ◌≤◌, ◌<◌, ◌++◌, ℕ, List, [], All, IfErr, IfOk, OnOk, drop, length};
-ghost use Rattle.liveviews.specs.Kept.{IsCounted, IsKeptSo, IsWritable, taken_rows};
+ghost use Rattle.liveviews.specs.Buffered.{IsCounted, IsBufferedSo, IsWritable, buffered_rows};
 ghost use Rattle.values.specs.Datum.{Datum};
 ghost use Rattle.schema_meta.specs.Story.{Story, story_of};
 ghost use Rattle.schema_meta.specs.Means.{Means};
 ghost use Rattle.stream_writer.specs.Table.{IsTable};
 ghost use Rattle.liveviews.specs.Source.{OfSource};
 ghost use Rattle.liveviews.specs.Steps.{
-  HasTaken,
-  HasTakenAll,
+  HasConsumed,
+  HasConsumedAll,
   IsComplete,
   IsOpen,
   IsRead,
-  IsTaken,
+  IsConsumed,
   Reached,
   Refuses,
 };
@@ -21,7 +21,7 @@ ghost use Rattle.liveviews.specs.Steps.{
 use crate::files::FileFault;
 use crate::reading::next_message::{NextMessage, next_message};
 use crate::reading::pieces::{next_piece, room};
-use crate::recasting::kept_batches::KeptBatches;
+use crate::recasting::buffered_batches::BufferedBatches;
 use body_writer::Batch;
 use feed::{Feed, story_law};
 use messages::first_message_law;
@@ -34,24 +34,24 @@ use values::{Cause, Schema};
 #[derive(Drop)]
 pub(crate) struct Table {
     pub schema: Schema,
-    pub rows: KeptBatches,
+    pub rows: BufferedBatches,
 }
 
 /// Takes the first message of a piece, or all of the piece where it ends before the message does, and returns how many
 /// bytes were used.
 ///
 /// What it says is said of any stream of which these rows were taken, whatever bytes come after the piece.
-fn take_message(feed: &mut Feed, piece: &[u8], rows: &mut KeptBatches) -> Result<usize, Cause>
+fn take_message(feed: &mut Feed, piece: &[u8], rows: &mut BufferedBatches) -> Result<usize, Cause>
     requires open { IsOpen feed.old }
     requires some { 0 < length piece.now }
     requires counted { IsCounted rows.old }
     ensures open { OnOk result (IsOpen feed.new) }
     ensures counted { OnOk result (IsCounted rows.new) }
     ensures used { IfOk result (λ n. (0 < n) × (n ≤ length piece.now)) }
-    ensures taken { IfOk result (λ n. (s : Story) (later : List ℕ) → HasTaken s feed.old rows.old (piece.now ++ later)
-        → HasTaken s feed.new rows.new (drop n piece.now ++ later)) }
+    ensures taken { IfOk result (λ n. (s : Story) (later : List ℕ) → HasConsumed s feed.old rows.old (piece.now ++ later)
+        → HasConsumed s feed.new rows.new (drop n piece.now ++ later)) }
     ensures refused { IfErr result (λ c. (s : Story) (later : List ℕ)
-        → HasTaken s feed.old rows.old (piece.now ++ later) → Refuses s c) }
+        → HasConsumed s feed.old rows.old (piece.now ++ later) → Refuses s c) }
 {
     let next = next_message(feed, piece)?;
     let NextMessage { used, batch } = next;
@@ -67,15 +67,15 @@ fn take_message(feed: &mut Feed, piece: &[u8], rows: &mut KeptBatches) -> Result
 }
 
 /// Takes all messages of a piece, and what it has of one more.
-fn take_messages(feed: &mut Feed, piece: &[u8], rows: &mut KeptBatches) -> Result<(), Cause>
+fn take_messages(feed: &mut Feed, piece: &[u8], rows: &mut BufferedBatches) -> Result<(), Cause>
     requires open { IsOpen feed.old }
     requires counted { IsCounted rows.old }
     ensures open { OnOk result (IsOpen feed.new) }
     ensures counted { OnOk result (IsCounted rows.new) }
-    ensures taken { OnOk result ((s : Story) (later : List ℕ) → HasTaken s feed.old rows.old (piece.now ++ later)
-        → HasTaken s feed.new rows.new later) }
+    ensures taken { OnOk result ((s : Story) (later : List ℕ) → HasConsumed s feed.old rows.old (piece.now ++ later)
+        → HasConsumed s feed.new rows.new later) }
     ensures refused { IfErr result (λ c. (s : Story) (later : List ℕ)
-        → HasTaken s feed.old rows.old (piece.now ++ later) → Refuses s c) }
+        → HasConsumed s feed.old rows.old (piece.now ++ later) → Refuses s c) }
 {
     let mut rest = piece;
     while !rest.is_empty() {
@@ -90,14 +90,14 @@ fn take_source<R: Read>(
     alloc: Global,
     feed: &mut Feed,
     source: &mut R,
-    rows: &mut KeptBatches,
+    rows: &mut BufferedBatches,
 ) -> Result<Result<(), Cause>, FileFault>
     requires open { IsOpen feed.old }
     requires counted { IsCounted rows.old }
-    requires begins { (input : List ℕ) → HasTaken (story_of input) feed.old rows.old input }
+    requires begins { (input : List ℕ) → HasConsumed (story_of input) feed.old rows.old input }
     ensures open { IfOk result (λ all. OnOk all (IsOpen feed.new)) }
     ensures counted { IfOk result (λ all. OnOk all (IsCounted rows.new)) }
-    ensures taken { IfOk result (λ all. OfSource (R.remaining source.old) (HasTakenAll feed.new rows.new all)) }
+    ensures taken { IfOk result (λ all. OfSource (R.remaining source.old) (HasConsumedAll feed.new rows.new all)) }
 {
     let mut room = room(alloc)?;
     for _ in 0..u64::MAX {
@@ -127,15 +127,15 @@ pub(crate) fn end(feed: &mut Feed) -> Result<(), Cause>
 }
 
 /// The table of a stream that has ended, of which these rows were taken.
-fn finish(alloc: Global, feed: &Feed, rows: KeptBatches) -> Result<Table, Cause>
-    ensures means { IfOk result (λ t. (s : Story) → IsComplete s feed.now (taken_rows rows)
-        → Means s t.schema.fields.items (taken_rows t.rows)) }
-    ensures within { IfOk result (λ t. (s : Story) → IsComplete s feed.now (taken_rows rows)
-        → IsTable t.schema.fields.items (taken_rows t.rows)) }
-    ensures kept { IfOk result (λ t. (s : Story) → IsComplete s feed.now (taken_rows rows) → IsKeptSo s.schema rows
+fn finish(alloc: Global, feed: &Feed, rows: BufferedBatches) -> Result<Table, Cause>
+    ensures means { IfOk result (λ t. (s : Story) → IsComplete s feed.now (buffered_rows rows)
+        → Means s t.schema.fields.items (buffered_rows t.rows)) }
+    ensures within { IfOk result (λ t. (s : Story) → IsComplete s feed.now (buffered_rows rows)
+        → IsTable t.schema.fields.items (buffered_rows t.rows)) }
+    ensures kept { IfOk result (λ t. (s : Story) → IsComplete s feed.now (buffered_rows rows) → IsBufferedSo s.schema rows
         → IsWritable t.schema.fields.items t.rows) }
     ensures same { IfOk result (λ t. t.rows ≡ rows) }
-    ensures lacks { IfErr result (λ c. (s : Story) → IsComplete s feed.now (taken_rows rows) → Refuses s c) }
+    ensures lacks { IfErr result (λ c. (s : Story) → IsComplete s feed.now (buffered_rows rows) → Refuses s c) }
 {
     // They do nothing: the proof takes from them that the schema can be written, with these rows.
     fields_law();
@@ -148,18 +148,18 @@ fn finish(alloc: Global, feed: &Feed, rows: KeptBatches) -> Result<Table, Cause>
 }
 
 /// The table of a stream of which all messages were taken.
-fn complete(alloc: Global, feed: &mut Feed, rows: KeptBatches) -> Result<Table, Cause>
+fn complete(alloc: Global, feed: &mut Feed, rows: BufferedBatches) -> Result<Table, Cause>
     requires open { IsOpen feed.old }
     requires counted { IsCounted rows }
-    ensures means { IfOk result (λ t. (s : Story) → HasTaken s feed.old rows []
-        → Means s t.schema.fields.items (taken_rows t.rows)) }
-    ensures within { IfOk result (λ t. (s : Story) → HasTaken s feed.old rows []
-        → IsTable t.schema.fields.items (taken_rows t.rows)) }
+    ensures means { IfOk result (λ t. (s : Story) → HasConsumed s feed.old rows []
+        → Means s t.schema.fields.items (buffered_rows t.rows)) }
+    ensures within { IfOk result (λ t. (s : Story) → HasConsumed s feed.old rows []
+        → IsTable t.schema.fields.items (buffered_rows t.rows)) }
     ensures counted { IfOk result (λ t. IsCounted t.rows) }
-    ensures kept { IfOk result (λ t. (s : Story) → HasTaken s feed.old rows []
+    ensures kept { IfOk result (λ t. (s : Story) → HasConsumed s feed.old rows []
         → IsWritable t.schema.fields.items t.rows) }
-    ensures accepted { OnOk result ((s : Story) → HasTaken s feed.old rows [] → IsTaken s) }
-    ensures refused { IfErr result (λ c. (s : Story) → HasTaken s feed.old rows [] → Refuses s c) }
+    ensures accepted { OnOk result ((s : Story) → HasConsumed s feed.old rows [] → IsConsumed s) }
+    ensures refused { IfErr result (λ c. (s : Story) → HasConsumed s feed.old rows [] → Refuses s c) }
 {
     end(feed)?;
     finish(alloc, feed, rows)
@@ -171,18 +171,18 @@ impl Table {
     /// The error is a fault of the stream, `TooManyRows` above 2^24 rows, `CellTooHeavy` or `Memory`.
     /// Where several stand, any of them may come.
     pub fn read(alloc: Global, input: &[u8]) -> Result<Table, Cause>
-        ensures means { IfOk result (λ t. Means (story_of input.now) t.schema.fields.items (taken_rows t.rows)) }
-        ensures within { IfOk result (λ t. IsTable t.schema.fields.items (taken_rows t.rows)) }
+        ensures means { IfOk result (λ t. Means (story_of input.now) t.schema.fields.items (buffered_rows t.rows)) }
+        ensures within { IfOk result (λ t. IsTable t.schema.fields.items (buffered_rows t.rows)) }
         ensures counted { IfOk result (λ t. IsCounted t.rows) }
         ensures kept { IfOk result (λ t. IsWritable t.schema.fields.items t.rows) }
-        ensures accepted { OnOk result (IsTaken (story_of input.now)) }
+        ensures accepted { OnOk result (IsConsumed (story_of input.now)) }
         ensures refused { IfErr result (Refuses (story_of input.now)) }
     {
         // They do nothing: the proof takes from them that nothing is told before the first byte.
         first_message_law();
         story_law();
         let mut feed = Feed::open(alloc, None);
-        let mut rows = KeptBatches::new(alloc);
+        let mut rows = BufferedBatches::new(alloc);
         take_messages(&mut feed, input, &mut rows)?;
         complete(alloc, &mut feed, rows)
     }
@@ -195,7 +195,7 @@ impl Table {
         source: &mut R,
     ) -> Result<Result<Table, Cause>, FileFault>
         ensures read { IfOk result (λ read. OfSource (R.remaining source.old) (IsRead read)) }
-        ensures within { IfOk result (λ read. IfOk read (λ t. IsTable t.schema.fields.items (taken_rows t.rows))) }
+        ensures within { IfOk result (λ read. IfOk read (λ t. IsTable t.schema.fields.items (buffered_rows t.rows))) }
         ensures counted { IfOk result (λ read. IfOk read (λ t. IsCounted t.rows)) }
         ensures kept { IfOk result (λ read. IfOk read (λ t. IsWritable t.schema.fields.items t.rows)) }
     {
@@ -203,7 +203,7 @@ impl Table {
         first_message_law();
         story_law();
         let mut feed = Feed::open(alloc, None);
-        let mut rows = KeptBatches::new(alloc);
+        let mut rows = BufferedBatches::new(alloc);
         let taken = take_source(alloc, &mut feed, source, &mut rows)?;
         match taken {
             Ok(()) => Ok(complete(alloc, &mut feed, rows)),

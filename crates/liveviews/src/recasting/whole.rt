@@ -4,10 +4,10 @@ ghost use Rattle.schema_meta.specs.Story.{story_of};
 ghost use Rattle.std.specs.Prelude.{ℕ, List, IfOk, OnOk};
 ghost use Rattle.stream_writer.specs.Table.{IsTable};
 ghost use Rattle.liveviews.specs.Files.{RecastsSource};
-ghost use Rattle.liveviews.specs.Kept.{IsCounted, IsWritable, taken_rows};
+ghost use Rattle.liveviews.specs.Buffered.{IsCounted, IsWritable, buffered_rows};
 ghost use Rattle.liveviews.specs.Recast.{Recasts};
 ghost use Rattle.liveviews.specs.Source.{OfSource};
-ghost use Rattle.liveviews.specs.Steps.{IsRead, IsTaken};
+ghost use Rattle.liveviews.specs.Steps.{IsRead, IsConsumed};
 
 use crate::files::FileFault;
 use crate::laws::recast_law;
@@ -91,7 +91,7 @@ pub fn recast<S: Sink>(alloc: Global, input: &[u8], sink: &mut S) -> Result<u64,
     ensures recasts { Recasts (S.sunk sink.old) (S.sunk sink.new) result (story_of input.now) }
 
     // On Ok no limit is passed either: at most 2^24 rows, none too heavy.
-    ensures accepted { OnOk result (IsTaken (story_of input.now)) }
+    ensures accepted { OnOk result (IsConsumed (story_of input.now)) }
 {
     // It does nothing: the proof takes from it that what is written is read back.
     recast_law();
@@ -103,13 +103,13 @@ pub fn recast<S: Sink>(alloc: Global, input: &[u8], sink: &mut S) -> Result<u64,
 /// Puts the canonical stream of the table that was read of a stream, if one was.
 #[tactic(auto, using(crate::proofs::Recasts::puts))]
 fn put<S: Sink>(alloc: Global, read: Result<Table, Cause>, sink: &mut S) -> Result<u64, RecastFault>
-    requires within { IfOk read (λ t. IsTable t.schema.fields.items (taken_rows t.rows)) }
+    requires within { IfOk read (λ t. IsTable t.schema.fields.items (buffered_rows t.rows)) }
     requires counted { IfOk read (λ t. IsCounted t.rows) }
     requires kept { IfOk read (λ t. IsWritable t.schema.fields.items t.rows) }
     ensures recasts { (input : List ℕ) → IsRead read input
         → Recasts (S.sunk sink.old) (S.sunk sink.new) result (story_of input) }
     ensures accepted { OnOk result ((input : List ℕ) → IsRead read input
-        → IsTaken (story_of input)) }
+        → IsConsumed (story_of input)) }
 {
     // It does nothing: the proof takes from it that what is written is read back.
     recast_law();
@@ -129,7 +129,7 @@ pub fn recast_from<R: Read, S: Sink>(
 
     // On Ok no limit is passed either, as `recast` says it.
     ensures accepted { OnOk result (OfSource (R.remaining source.old)
-        (λ input. IsTaken (story_of input))) }
+        (λ input. IsConsumed (story_of input))) }
 {
     let read = Table::read_from(alloc, source)?;
     match put(alloc, read, sink) {

@@ -5,7 +5,7 @@ ghost use Rattle.std.specs.Prelude.{◌≤◌, IfOk};
 use crate::files::{FileFault, Files, STANDARD};
 use crate::reading::pieces::{room, skip};
 use crate::scripting::lines::{Line, LiveLine, read_live_line};
-use crate::scripting::run::{Answer, Run, unreadable, writes_standard};
+use crate::scripting::run::{Answer, ScriptRunner, unreadable, writes_standard};
 use session::Session;
 use std::alloc::{AllocError, Global};
 use std::io::{BufRead, BufReader, BufWriter, Read, Write};
@@ -13,7 +13,7 @@ use std::io::{BufRead, BufReader, BufWriter, Read, Write};
 /// Reads the next `len` bytes of the input and pushes them to a feed, until they are refused: what is left of them is
 /// read all the same. The error says that not all of them came.
 fn push_bytes<R: Read, W: Write>(
-    run: &mut Run,
+    run: &mut ScriptRunner,
     feed: &str,
     len: u64,
     input: &mut R,
@@ -29,7 +29,7 @@ fn push_bytes<R: Read, W: Write>(
 
 /// Does what a line of a script says, and prints the answers.
 fn run_line<F: Files, W: Write>(
-    run: &mut Run,
+    run: &mut ScriptRunner,
     line: Line,
     files: &mut F,
     room: &mut [u8],
@@ -48,7 +48,7 @@ fn run_line<F: Files, W: Write>(
 
 /// Does what a line says, and prints the answers. The error says that the input can't be read on.
 fn answer<F: Files, R: Read, W: Write>(
-    run: &mut Run,
+    run: &mut ScriptRunner,
     line: &[u8],
     input: &mut R,
     files: &mut F,
@@ -95,7 +95,7 @@ pub(crate) fn run_live<F: Files, W: Write>(
         return Err(AllocError);
     };
     let mut line = Vec::new(alloc);
-    let mut run = Run::new(alloc, session);
+    let mut run = ScriptRunner::new(alloc, session);
     for _ in 0..u64::MAX {
         run.next();
         let came = match next_line(&mut input, &mut line) {

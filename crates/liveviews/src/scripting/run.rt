@@ -93,16 +93,16 @@ struct Part {
 
 /// A run of lines: its session, the number of the current line, and whether all commands and prints so far succeeded.
 #[derive(Drop)]
-pub(crate) struct Run {
+pub(crate) struct ScriptRunner {
     alloc: Global,
     session: Session,
     line: usize,
     is_clean: bool,
 }
 
-impl Run {
-    pub(crate) fn new(alloc: Global, session: Session) -> Run {
-        Run {
+impl ScriptRunner {
+    pub(crate) fn new(alloc: Global, session: Session) -> ScriptRunner {
+        ScriptRunner {
             alloc,
             session,
             line: 0,
@@ -410,7 +410,7 @@ pub(crate) fn run_script<F: Files, W: Write>(
         }
         Outlook::Lines { write_standard } => files.print_aside(write_standard),
     }
-    let mut run = Run::new(alloc, session);
+    let mut run = ScriptRunner::new(alloc, session);
     for line in script.split(|byte| *byte == b'\n') {
         run.next();
         if let Line::Command(command) = read_line(line) {

@@ -7,6 +7,6 @@ returns c =
       _,
       c.put.ensures,
       c.finish-answer.result,
-      c.tell_end.ensures,
+      c.answer_end.ensures,
       rw (sym c.deref_mut.ensures.value) c.finish-answer.ensures,
     )

@@ -7,6 +7,6 @@ returns c =
       _,
       c.put.ensures,
       c.push-answer.result,
-      c.tell_push.ensures,
+      c.answer_push.ensures,
       rw (sym c.deref_mut.ensures.value) c.push-answer.ensures,
     )

@@ -7,6 +7,6 @@ returns c =
       _,
       c.put.ensures,
       c.write-answer.result,
-      c.tell_view.ensures,
+      c.answer_view.ensures,
       rw (sym c.deref_mut.ensures.value) c.write-answer.ensures,
     )

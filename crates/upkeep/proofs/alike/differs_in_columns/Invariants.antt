@@ -1,7 +1,7 @@
 use Rattle.std.proofs.Common.{◌≡◌, drop}
 use Rattle.std.specs.List.{list_any}
 use Rattle.upkeep.specs.AlikeRows.{differ_in}
-use Rattle.upkeep.proofs.alike.differs_in_kept.Given as goal
+use Rattle.upkeep.proofs.alike.differs_in_columns.Given as goal
 
 abbrev pub invariant-loop-kept : goal.invariant-loop-kept
 invariant-loop-kept g l =

@@ -1,6 +1,6 @@
 use Rattle.std.proofs.Common.{◌∙◌, arith, length, subst, sym}
 use Rattle.std.proofs.lemmas.List.{length-set}
-use Rattle.upkeep.specs.Arrivals.{Tells, rows_of_numbers}
+use Rattle.upkeep.specs.Arrivals.{Describes, rows_of_numbers}
 use Rattle.upkeep.specs.Stores.{Rows, rows_at, rows_in, tables_in, visits_in}
 use Rattle.upkeep.specs.StoreLaws.{set_same}
 use Rattle.upkeep.specs.declared.view_state.ViewState.{ViewState}
@@ -20,7 +20,7 @@ follow-requires-clause-fits c =
 
 pub follow-requires-clause-known : goal.follow-requires-clause-known
 follow-requires-clause-known c =
-    subst (λ (rs : Rows). Tells c.index-views-place.result (rows_of_numbers (rows_at rs 0) c.args.numbers.now)
+    subst (λ (rs : Rows). Describes c.index-views-place.result (rows_of_numbers (rows_at rs 0) c.args.numbers.now)
     c.arrival_at.result.now) (sym c.loop-place.invariant.same_rows.rows)
     (each_at c.args.views.now (rows_of_numbers (rows_at (rows_in c.args.stores.now.items) 0) c.args.numbers.now)
     c.args.arrivals.now c.loop-place.place c.index-views-place.result c.arrival_at.result.now c.index-views-place.is

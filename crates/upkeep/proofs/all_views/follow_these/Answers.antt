@@ -1,5 +1,5 @@
 use Rattle.std.proofs.Common.{List, length, subst, sym, ℕ}
-use Rattle.upkeep.specs.Arrivals.{EachTells, rows_of_numbers}
+use Rattle.upkeep.specs.Arrivals.{EachDescribes, rows_of_numbers}
 use Rattle.upkeep.specs.Stores.{rows_at, rows_in, visits_in}
 use Rattle.row_keys.proofs.NumberRanges.{last_there}
 use Rattle.upkeep.proofs.LastRows.{last_many, last_opened}
@@ -12,7 +12,7 @@ follow_all-requires-clause-there c =
 
 pub follow_all-requires-clause-known : goal.follow_all-requires-clause-known
 follow_all-requires-clause-known c =
-    subst (λ (ns : List ℕ). EachTells c.args.views.now
+    subst (λ (ns : List ℕ). EachDescribes c.args.views.now
     (rows_of_numbers (rows_at (rows_in c.args.stores.now.items) 0) ns) c.args.arrivals.now)
     (sym c.requires.last) c.requires.known
 

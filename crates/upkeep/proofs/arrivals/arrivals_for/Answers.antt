@@ -1,7 +1,7 @@
 use Rattle.std.proofs.Common.{[], arith, ap, get_or, length, subst, sym, ◌≡◌, ◌∷◌, ℕ}
 use Rattle.std.proofs.lemmas.List.{length-append}
 use Rattle.row_keys.specs.Batches.{batch_rows}
-use Rattle.upkeep.specs.Arrivals.{EachTells}
+use Rattle.upkeep.specs.Arrivals.{EachDescribes}
 use Rattle.upkeep.proofs.ArrivalRows.{each_push}
 use Rattle.upkeep.proofs.arrivals.arrivals_for.Goals as goal
 
@@ -14,7 +14,7 @@ loop-place-preserved c = record {
     c.loop-place.invariant.many,
   );
   each =
-      subst (EachTells c.args.views.now (batch_rows c.args.rows c.args.columns.now)) (sym c.in_ok-push.ensures.items)
+      subst (EachDescribes c.args.views.now (batch_rows c.args.rows c.args.columns.now)) (sym c.in_ok-push.ensures.items)
       (each_push c.args.views.now (batch_rows c.args.rows c.args.columns.now) c.loop-place.arrivals.items
       c.index-views-place.result c.in_ok-arrival.arrival
       (subst (λ (n : ℕ). c.index-views-place.result ≡ get_or c.args.views.now n c.index-views-place.result)

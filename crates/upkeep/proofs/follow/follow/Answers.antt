@@ -20,11 +20,11 @@ follow_numbers-followed-requires-clause-links c =
     (turned c.args.turn (rows_at (rows_in c.args.stores.now.items) 0) c.args.numbers.now)
     c.requires.fits.0 c.requires.fits.1.0 c.requires.fits.1.1.0 c.requires.fits.1.1.1 c.if-state.false
 
-pub returns-then-keeps_nothing-clause-kept : goal.returns-then-keeps_nothing-clause-kept
-returns-then-keeps_nothing-clause-kept c = λ rows fits current.
+pub returns-then-materializes_nothing-clause-kept : goal.returns-then-materializes_nothing-clause-kept
+returns-then-materializes_nothing-clause-kept c = λ rows fits current.
     still_current (tables_in c.args.stores.now.items) c.args.view.now
     (side_by (tables_in c.args.stores.now.items) (rows_in c.args.stores.now.items) c.args.view.now) c.args.state.now
-    rows _ (c.keeps_nothing.ensures c.if-keeps_nothing.true) current
+    rows _ (c.materializes_nothing.ensures c.if-materializes_nothing.true) current
 
 pub returns-else-is_err-clause-kept : goal.returns-else-is_err-clause-kept
 returns-else-is_err-clause-kept c =

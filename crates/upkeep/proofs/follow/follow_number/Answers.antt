@@ -5,10 +5,10 @@ use Rattle.view_lang.specs.Images.{shift_image}
 use Rattle.view_lang.specs.Shifts.{Fits}
 use Rattle.row_keys.specs.Slots.{no_slot, row_of}
 use Rattle.row_keys.specs.Store.{Store}
-use Rattle.upkeep.specs.Arrivals.{TellsOf, TellsRow}
+use Rattle.upkeep.specs.Arrivals.{DescribesSome, DescribesRow}
 use Rattle.upkeep.specs.Inputs.{side_by}
 use Rattle.upkeep.specs.Stores.{rows_at, rows_in, tables_in}
-use Rattle.upkeep.specs.ViewStates.{IsKept, KeepsLinks, link_row, made_row, turned}
+use Rattle.upkeep.specs.ViewStates.{IsMaterialized, KeepsLinks, link_row, projected_row, turned}
 use Rattle.upkeep.specs.declared.view_state.Turn.TheVariants as turn
 use Rattle.upkeep.proofs.ArrivalRows.{dropped_link, made_none}
 use Rattle.upkeep.proofs.FollowedLookups.{on_ok}
@@ -31,11 +31,11 @@ returns-then-is_gone-clause-kept c = λ rows fits k.
     let v = c.args.view.now in
     let stores = c.args.stores.now.items in
     let slots = rows_at (rows_in stores) 0 in
-    let make = made_row v (side_by (tables_in stores) (rows_in stores) v) in
+    let make = projected_row v (side_by (tables_in stores) (rows_in stores) v) in
     let gone = c.is_gone.ensures.gone c.if-is_gone.true in
     let dead = subst (λ (ss : List Store). (get_or (rows_at (rows_in ss) 0) c.args.number no_slot).live ≡ false)
     c.deref.ensures.value gone.1 in
-    still_kept (IsKept v c.args.state.now.kept) (map (shift_image make) (turned c.args.turn slots
+    still_kept (IsMaterialized v c.args.state.now.kept) (map (shift_image make) (turned c.args.turn slots
     (c.args.number ∷ []))) c.args.turn c.args.number None rows
     (dead_change make slots c.args.number c.args.turn gone.0 dead) refl fits k
 
@@ -59,17 +59,17 @@ returns-then-drops-clause-kept c =
     let v = c.args.view.now in
     let stores = c.args.stores.now.items in
     let slots = rows_at (rows_in stores) 0 in
-    let make = made_row v (side_by (tables_in stores) (rows_in stores) v) in
+    let make = projected_row v (side_by (tables_in stores) (rows_in stores) v) in
     let live = subst (λ (ss : List Store). c.args.turn ≡ turn.Go
     → (get_or (rows_at (rows_in ss) 0) c.args.number no_slot).live ≡ true)
     c.deref.ensures.value (c.is_gone.ensures.there c.if-is_gone.false) in
     let row = row_of slots c.args.number in
-    let told : TellsRow v c.in-Some.arrival c.args.index row =
-    subst (λ o. TellsOf v o c.args.index row) c.in-Some.is c.requires.known in
+    let told : DescribesRow v c.in-Some.arrival c.args.index row =
+    subst (λ o. DescribesSome v o c.args.index row) c.in-Some.is c.requires.known in
     let none = made_none v (side_by (tables_in stores) (rows_in stores) v) row
     (told.dropped (not_true _ (sym c.drops.ensures ∙ c.if-drops.true))) in
     on_ok _ _ c.turn_dropped.result
-    (λ done rows fits k. still_kept (IsKept v c.args.state.now.kept) (map (shift_image make)
+    (λ done rows fits k. still_kept (IsMaterialized v c.args.state.now.kept) (map (shift_image make)
     (turned c.args.turn slots (c.args.number ∷ []))) c.args.turn c.args.number (make row) rows
     (live_change make slots c.args.number c.args.turn live) none fits k)
     c.turn_dropped.ensures.kept
@@ -84,8 +84,8 @@ returns-then-drops-clause-links c =
     → (get_or (rows_at (rows_in ss) 0) c.args.number no_slot).live ≡ true)
     c.deref.ensures.value (c.is_gone.ensures.there c.if-is_gone.false) in
     let row = row_of slots c.args.number in
-    let told : TellsRow v c.in-Some.arrival c.args.index row =
-    subst (λ o. TellsOf v o c.args.index row) c.in-Some.is c.requires.known in
+    let told : DescribesRow v c.in-Some.arrival c.args.index row =
+    subst (λ o. DescribesSome v o c.args.index row) c.in-Some.is c.requires.known in
     let dropped = dropped_link c.args.state.now.links v row (option_copied c.looked_up.result)
     (told.refers ∙ ap (option_map (λ d. d ∷ [])) (sym c.looked_up.ensures))
     (told.apart (not_true _ (sym c.drops.ensures ∙ c.if-drops.true))) in
@@ -127,7 +127,7 @@ returns-clause-kept c =
     c.index.ensures)
     c.visit-visit.ensures.number c.row-row.ensures.row c.args.turn live in
     on_ok _ _ c.turn_main_row.result
-    (λ turned_one. same_change (IsKept v c.args.state.now.kept) (IsKept v c.turn_main_row.new.kept) _
+    (λ turned_one. same_change (IsMaterialized v c.args.state.now.kept) (IsMaterialized v c.turn_main_row.new.kept) _
     _ same turned_one)
     c.turn_main_row.ensures.kept
 

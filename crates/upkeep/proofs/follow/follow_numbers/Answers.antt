@@ -5,10 +5,10 @@ use Rattle.view_lang.specs.Config.{Table}
 use Rattle.view_lang.specs.Limits.{max_appended_rows}
 use Rattle.view_lang.specs.Shifts.{Fits, NumberedRows, patched}
 use Rattle.row_keys.specs.Slots.{row_of}
-use Rattle.upkeep.specs.Arrivals.{TellsOf}
+use Rattle.upkeep.specs.Arrivals.{DescribesSome}
 use Rattle.upkeep.specs.Inputs.{side_by}
 use Rattle.upkeep.specs.Stores.{Rows, rows_at, rows_in, tables_in}
-use Rattle.upkeep.specs.ViewStates.{IsKept, KeepsLinks, link_change, link_row, made_change, made_row, turned}
+use Rattle.upkeep.specs.ViewStates.{IsMaterialized, KeepsLinks, link_change, link_row, projected_change, projected_row, turned}
 use Rattle.upkeep.specs.declared.view_state.Links.{Links}
 use Rattle.upkeep.proofs.ArrivalRows.{opened_grows, opened_next, tells_one}
 use Rattle.upkeep.proofs.ChangedStores.{still_same}
@@ -18,7 +18,7 @@ use Rattle.upkeep.proofs.follow.follow_numbers.Goals as goal
 
 pub follow_number-requires-clause-known : goal.follow_number-requires-clause-known
 follow_number-requires-clause-known c =
-    subst (λ (rs : Rows). TellsOf c.args.view.now c.args.arrival.now c.loop-index.index
+    subst (λ (rs : Rows). DescribesSome c.args.view.now c.args.arrival.now c.loop-index.index
     (row_of (rows_at rs 0) (get_or c.args.numbers.now c.loop-index.index 0))) (sym c.loop-index.invariant.same_rows.rows)
     (tells_one c.args.view.now c.args.arrival.now (rows_at (rows_in c.args.stores.now.items) 0) c.args.numbers.now
     c.loop-index.index c.loop-index-test.true c.requires.known)
@@ -29,14 +29,14 @@ follow_number-requires-clause-fits c =
     let stores = c.args.stores.now.items in
     let now = c.loop-index.stores.items in
     let slots = rows_at (rows_in stores) 0 in
-    let make = made_row v (side_by (tables_in stores) (rows_in stores) v) in
+    let make = projected_row v (side_by (tables_in stores) (rows_in stores) v) in
     let n : ℕ = get_or c.args.numbers.now c.loop-index.index 0 in
     at_stores (λ (ts : List Table) (rs : Rows). (rows : NumberedRows)
-    × (IsKept v c.loop-index.state.kept rows
-    × (Fits rows (made_change ts rs v c.args.turn (n ∷ [])) × (length rows < max_appended_rows))))
+    × (IsMaterialized v c.loop-index.state.kept rows
+    × (Fits rows (projected_change ts rs v c.args.turn (n ∷ [])) × (length rows < max_appended_rows))))
     (tables_in stores) (tables_in now) (rows_in stores) (rows_in now) (sym c.loop-index.invariant.same_rows.tables)
     (sym c.loop-index.invariant.same_rows.rows)
-    (next_needs (IsKept v c.args.state.now.kept) (IsKept v c.loop-index.state.kept) make
+    (next_needs (IsMaterialized v c.args.state.now.kept) (IsMaterialized v c.loop-index.state.kept) make
     c.args.turn slots c.args.numbers.now c.loop-index.index c.requires.fits.0 (omega (arith, c.loop-index-test.true))
     c.loop-index.invariant.kept c.requires.fits.1.0 c.requires.fits.1.1.0 c.requires.fits.1.1.1)
 
@@ -67,18 +67,18 @@ loop-index-preserved c =
     let stores = c.args.stores.now.items in
     let now = c.loop-index.stores.items in
     let slots = rows_at (rows_in stores) 0 in
-    let make = made_row v (side_by (tables_in stores) (rows_in stores) v) in
+    let make = projected_row v (side_by (tables_in stores) (rows_in stores) v) in
     let l : Links = c.args.state.now.links in
     let n : ℕ = get_or c.args.numbers.now c.loop-index.index 0 in
     record {
-      kept = kept_more (IsKept v c.args.state.now.kept)
-          (IsKept v c.loop-index.state.kept) (IsKept v c.follow_number.new.state.kept)
+      kept = kept_more (IsMaterialized v c.args.state.now.kept)
+          (IsMaterialized v c.loop-index.state.kept) (IsMaterialized v c.follow_number.new.state.kept)
           make c.args.turn slots c.args.numbers.now c.loop-index.index (omega (arith, c.loop-index-test.true))
           c.loop-index.invariant.kept
           (at_stores (λ (ts : List Table) (rs : Rows). (rows : NumberedRows)
-          → Fits rows (made_change ts rs v c.args.turn (n ∷ [])) → IsKept v c.loop-index.state.kept rows
-          → IsKept v c.follow_number.new.state.kept
-          (patched rows (made_change ts rs v c.args.turn (n ∷ []))))
+          → Fits rows (projected_change ts rs v c.args.turn (n ∷ [])) → IsMaterialized v c.loop-index.state.kept rows
+          → IsMaterialized v c.follow_number.new.state.kept
+          (patched rows (projected_change ts rs v c.args.turn (n ∷ []))))
           (tables_in now) (tables_in stores) (rows_in now) (rows_in stores) c.loop-index.invariant.same_rows.tables
           c.loop-index.invariant.same_rows.rows c.in_ok-follow_number.ensures.kept);
       columns = c.in_ok-follow_number.ensures.columns ∙ c.loop-index.invariant.columns;
@@ -130,8 +130,8 @@ pub returns-clause-kept : goal.returns-clause-kept
 returns-clause-kept c =
     let v = c.args.view.now in
     let stores = c.args.stores.now.items in
-    kept_all (IsKept v c.args.state.now.kept) (IsKept v c.loop-index.state.kept)
-    (made_row v (side_by (tables_in stores) (rows_in stores) v)) c.args.turn (rows_at (rows_in stores) 0)
+    kept_all (IsMaterialized v c.args.state.now.kept) (IsMaterialized v c.loop-index.state.kept)
+    (projected_row v (side_by (tables_in stores) (rows_in stores) v)) c.args.turn (rows_at (rows_in stores) 0)
     c.args.numbers.now c.loop-index.index (omega (arith, c.loop-index-test.false)) c.loop-index.invariant.kept
 
 pub returns-clause-links : goal.returns-clause-links

@@ -2,17 +2,17 @@ use Rattle.std.proofs.Common.{◌≡◌, ◌≤◌, ◌+◌, take}
 use Rattle.view_lang.specs.Shifts.{Fits, NumberedRows, patched}
 use Rattle.upkeep.specs.Arrivals.{opened_first}
 use Rattle.upkeep.specs.Stores.{HaveSameRows, rows_at, rows_in, tables_in, visits_in}
-use Rattle.upkeep.specs.ViewStates.{IsKept, KeepsLinks, columns_in, form_of, link_change, made_change}
+use Rattle.upkeep.specs.ViewStates.{IsMaterialized, KeepsLinks, columns_in, form_of, link_change, projected_change}
 use Rattle.upkeep.proofs.follow.follow_numbers.Given as goal
 
 abbrev pub invariant-loop-index : goal.invariant-loop-index
 invariant-loop-index l = record {
   kept :
       (rows : NumberedRows)
-      → Fits rows (made_change (tables_in l.fn.stores.items) (rows_in l.fn.stores.items) l.view l.turn l.numbers)
-      → IsKept l.view l.fn.state.kept rows
-      → IsKept l.view l.state.kept (patched rows (take l.index
-      (made_change (tables_in l.fn.stores.items) (rows_in l.fn.stores.items) l.view l.turn l.numbers)));
+      → Fits rows (projected_change (tables_in l.fn.stores.items) (rows_in l.fn.stores.items) l.view l.turn l.numbers)
+      → IsMaterialized l.view l.fn.state.kept rows
+      → IsMaterialized l.view l.state.kept (patched rows (take l.index
+      (projected_change (tables_in l.fn.stores.items) (rows_in l.fn.stores.items) l.view l.turn l.numbers)));
   columns : columns_in l.state.kept ≡ columns_in l.fn.state.kept;
   links :
       (rows : NumberedRows)

@@ -10,7 +10,7 @@ use Rattle.row_keys.specs.Store.{Store}
 use Rattle.upkeep.specs.StoreLaws.{rows_there, table_there}
 use Rattle.upkeep.specs.Stores.{rows_at, rows_in, tables_in, visits_in}
 use Rattle.upkeep.specs.Swaps.{CanSwap}
-use Rattle.upkeep.specs.ViewStates.{IsKept}
+use Rattle.upkeep.specs.ViewStates.{IsMaterialized}
 use Rattle.upkeep.proofs.ChangedStores.{still_same}
 use Rattle.upkeep.proofs.FollowedLookups.{on_ok}
 use Rattle.upkeep.proofs.RowByRow.{same_change}
@@ -71,7 +71,7 @@ returns-clause-kept c =
     c.index_mut.result.now c.side_rows.new.store c.args.numbers.now c.index_mut.ensures.value c.requires.there
     c.side_rows.ensures.same c.in_ok-sides.ensures.before c.in_ok-sides.ensures.after c.requires.refer in
     on_ok _ _ c.remake_numbers.result
-    (λ made. same_change (IsKept c.args.view.now c.args.kept.now) (IsKept c.args.view.now c.remake_numbers.new.kept) _ _
+    (λ made. same_change (IsMaterialized c.args.view.now c.args.kept.now) (IsMaterialized c.args.view.now c.remake_numbers.new.kept) _ _
     (sym same) made)
     c.remake_numbers.ensures.kept
 

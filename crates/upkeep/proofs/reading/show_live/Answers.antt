@@ -4,7 +4,7 @@ use Rattle.row_keys.specs.Store.{Store}
 use Rattle.upkeep.specs.Inputs.{side_by}
 use Rattle.upkeep.specs.Reading.{AreShown, IsReadable}
 use Rattle.upkeep.specs.Stores.{rows_at, rows_in, tables_in}
-use Rattle.upkeep.specs.declared.view_state.Kept.TheVariants as kept
+use Rattle.upkeep.specs.declared.view_state.Materialized.TheVariants as kept
 use Rattle.upkeep.proofs.reading.show_live.Goals as goal
 
 pub show_numbers-requires-clause-view : goal.show_numbers-requires-clause-view

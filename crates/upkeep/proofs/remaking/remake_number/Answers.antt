@@ -7,7 +7,7 @@ use Rattle.view_lang.specs.Shifts.{Fits}
 use Rattle.row_keys.specs.Slots.{row_of}
 use Rattle.upkeep.specs.SideRows.{side_of_rows, sided_cells}
 use Rattle.upkeep.specs.Stores.{rows_at, rows_in}
-use Rattle.upkeep.specs.ViewStates.{IsKept}
+use Rattle.upkeep.specs.ViewStates.{IsMaterialized}
 use Rattle.upkeep.proofs.FollowedLookups.{on_ok}
 use Rattle.upkeep.proofs.RowByRow.{row_is, same_change}
 use Rattle.upkeep.proofs.SidesByKey.{remade_one}
@@ -59,5 +59,5 @@ returns-clause-kept c =
     ∙ ap (λ l. looked_up l (side_of_rows c.args.sides.now.after.entries) c.row-row.result) looks)
     c.keep_row-before.ensures c.keep_row-after.ensures in
     on_ok _ _ c.remake_row.result
-    (λ made. same_change (IsKept v c.args.kept.now) (IsKept v c.remake_row.new.kept) _ _ same made)
+    (λ made. same_change (IsMaterialized v c.args.kept.now) (IsMaterialized v c.remake_row.new.kept) _ _ same made)
     c.remake_row.ensures.kept

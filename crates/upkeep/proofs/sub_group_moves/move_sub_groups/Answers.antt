@@ -32,7 +32,7 @@ use Rattle.group_state.specs.Moves.{begins_with_one}
 use Rattle.row_keys.specs.Slots.{Slot, live}
 use Rattle.row_keys.specs.Store.{Store}
 use Rattle.upkeep.specs.Inputs.{side_by}
-use Rattle.upkeep.specs.Moves.{AreGrouped, CanMove, made_but, out_at}
+use Rattle.upkeep.specs.Moves.{AreGrouped, CanMove, projected_but, out_at}
 use Rattle.upkeep.specs.StoreLaws.{rows_length, rows_there, table_there}
 use Rattle.upkeep.specs.Stores.{HaveSameRows, Rows, rows_at, rows_in, tables_in}
 use Rattle.row_keys.specs.HiddenChanges.{NamesRows, named_keys}
@@ -154,11 +154,11 @@ turn_sub_groups-gone-requires-clause-kept c =
     let rows = linked_rows c.image_law.ensures.values c.numbers_law.ensures.live c.sub_group_law.ensures.left_out tables v s c.args.kept.now g
     main c.in-Groups.is c.requires.right c.requires.view held few c.requires.links in
     subst (λ (ss : List Store). (x : List (List Datum)) × (AreGrouped (tables_in ss) v s x
-    × KeepsRanked g (made_but v (side_by (tables_in ss) (rows_in ss) v) s.groups.keys [] x)))
+    × KeepsRanked g (projected_but v (side_by (tables_in ss) (rows_in ss) v) s.groups.keys [] x)))
     (sym c.deref-2.ensures.value) (
       rows,
       at_stores (λ (ts : List Table) (rs : Rows). AreGrouped ts v s rows
-          × KeepsRanked g (made_but v (side_by ts rs v) s.groups.keys [] rows))
+          × KeepsRanked g (projected_but v (side_by ts rs v) s.groups.keys [] rows))
           (tables_in stores) (tables_in went) hidden (rows_in went) (sym to_tables) (sym to_rows) (
             grouped c.image_law.ensures.values c.numbers_law.ensures.live c.sub_group_law.ensures.left_out tables v s c.args.kept.now g
                 main c.in-Groups.is c.requires.right c.requires.view held few c.requires.links,
@@ -332,20 +332,20 @@ turn_sub_groups-requires-clause-kept c =
     let ts = c.in_ok-tuples.tuples.items in
     let before : Side = side_by tables hidden v in
     let now : Side = side_by tables (rows_in stores) v in
-    let gone_kept : KeepsRanked c.turn_sub_groups-gone.new.groups (made_but v before s.groups.keys ts rows) =
-    subst (λ (x : List (List Key)). KeepsRanked c.turn_sub_groups-gone.new.groups (made_but v before s.groups.keys x rows))
+    let gone_kept : KeepsRanked c.turn_sub_groups-gone.new.groups (projected_but v before s.groups.keys ts rows) =
+    subst (λ (x : List (List Key)). KeepsRanked c.turn_sub_groups-gone.new.groups (projected_but v before s.groups.keys x rows))
     (all_of ts)
     (subst (λ (x : List (List Key)). KeepsRanked c.turn_sub_groups-gone.new.groups
-    (made_but v before s.groups.keys (out_at turn.Go (length x) x) rows)) c.deref-3.ensures.value
+    (projected_but v before s.groups.keys (out_at turn.Go (length x) x) rows)) c.deref-3.ensures.value
     (at_stores (λ (tb : List Table) (rs : Rows). AreGrouped tb v s rows
-    → KeepsRanked g (made_but v (side_by tb rs v) s.groups.keys (out_at turn.Go 0 c.deref-3.result.now) rows)
-    → KeepsRanked c.turn_sub_groups-gone.new.groups (made_but v (side_by tb rs v) s.groups.keys
+    → KeepsRanked g (projected_but v (side_by tb rs v) s.groups.keys (out_at turn.Go 0 c.deref-3.result.now) rows)
+    → KeepsRanked c.turn_sub_groups-gone.new.groups (projected_but v (side_by tb rs v) s.groups.keys
     (out_at turn.Go (length c.deref-3.result.now) c.deref-3.result.now) rows))
     (tables_in went) tables (rows_in went) hidden to_tables to_rows
     (subst (λ (ss : List Store). AreGrouped (tables_in ss) v s rows
-    → KeepsRanked g (made_but v (side_by (tables_in ss) (rows_in ss) v) s.groups.keys
+    → KeepsRanked g (projected_but v (side_by (tables_in ss) (rows_in ss) v) s.groups.keys
     (out_at turn.Go 0 c.deref-3.result.now) rows)
-    → KeepsRanked c.turn_sub_groups-gone.new.groups (made_but v (side_by (tables_in ss) (rows_in ss) v) s.groups.keys
+    → KeepsRanked c.turn_sub_groups-gone.new.groups (projected_but v (side_by (tables_in ss) (rows_in ss) v) s.groups.keys
     (out_at turn.Go (length c.deref-3.result.now) c.deref-3.result.now) rows)) c.deref-2.ensures.value
     (c.in_ok-gone.ensures.kept rows))
     (grouped c.image_law.ensures.values c.numbers_law.ensures.live c.sub_group_law.ensures.left_out tables v s c.args.kept.now g
@@ -361,7 +361,7 @@ turn_sub_groups-requires-clause-kept c =
     (sym (table_there stores c.args.table side_store c.index-2.ensures c.requires.there))
     ∙ ap (λ (ss : List Slot). named_keys (table_at tables c.args.table) c.args.change.now ss)
     (sym (rows_there stores c.args.table side_store c.index-2.ensures c.requires.there)) in
-    let same : made_but v before s.groups.keys ts rows ≡ made_but v now s.groups.keys ts rows =
+    let same : projected_but v before s.groups.keys ts rows ≡ projected_but v now s.groups.keys ts rows =
     moved_alike c.image_law.ensures.values c.numbers_law.ensures.live c.sub_group_law.ensures.left_out tables v s c.args.kept.now g
     main c.in-Groups.is c.requires.right c.requires.view held few c.requires.links
     before now named ts
@@ -371,15 +371,15 @@ turn_sub_groups-requires-clause-kept c =
     (sides_swapped tables v.lookup c.args.table c.args.turn c.args.change.now (rows_in stores)
     (omega (arith, c.requires.there, rows_length stores)) c.requires.looks) in
     subst (λ (ss : List Store). (x : List (List Datum)) × (AreGrouped (tables_in ss) v s x
-    × KeepsRanked c.turn_sub_groups-gone.new.groups (made_but v (side_by (tables_in ss) (rows_in ss) v) s.groups.keys
+    × KeepsRanked c.turn_sub_groups-gone.new.groups (projected_but v (side_by (tables_in ss) (rows_in ss) v) s.groups.keys
     c.deref-5.result.now x))) (sym c.deref-4.ensures.value) (
       rows,
       at_stores (λ (tb : List Table) (rs : Rows). AreGrouped tb v s rows
-          × KeepsRanked c.turn_sub_groups-gone.new.groups (made_but v (side_by tb rs v) s.groups.keys c.deref-5.result.now rows))
+          × KeepsRanked c.turn_sub_groups-gone.new.groups (projected_but v (side_by tb rs v) s.groups.keys c.deref-5.result.now rows))
           tables (tables_in back) (rows_in stores) (rows_in back) (sym back_to_tables) (sym back_to_rows) (
             grouped c.image_law.ensures.values c.numbers_law.ensures.live c.sub_group_law.ensures.left_out tables v s c.args.kept.now g
                 main c.in-Groups.is c.requires.right c.requires.view held few c.requires.links,
-            subst (λ (x : List (List Key)). KeepsRanked c.turn_sub_groups-gone.new.groups (made_but v now s.groups.keys x rows))
+            subst (λ (x : List (List Key)). KeepsRanked c.turn_sub_groups-gone.new.groups (projected_but v now s.groups.keys x rows))
                 (sym c.deref-5.ensures.value) (subst (KeepsRanked c.turn_sub_groups-gone.new.groups) same gone_kept),
           ),
     )
@@ -426,20 +426,20 @@ returns-clause-kept c =
     let ts = c.in_ok-tuples.tuples.items in
     let before : Side = side_by tables hidden v in
     let now : Side = side_by tables (rows_in stores) v in
-    let gone_kept : KeepsRanked c.turn_sub_groups-gone.new.groups (made_but v before s.groups.keys ts rows) =
-    subst (λ (x : List (List Key)). KeepsRanked c.turn_sub_groups-gone.new.groups (made_but v before s.groups.keys x rows))
+    let gone_kept : KeepsRanked c.turn_sub_groups-gone.new.groups (projected_but v before s.groups.keys ts rows) =
+    subst (λ (x : List (List Key)). KeepsRanked c.turn_sub_groups-gone.new.groups (projected_but v before s.groups.keys x rows))
     (all_of ts)
     (subst (λ (x : List (List Key)). KeepsRanked c.turn_sub_groups-gone.new.groups
-    (made_but v before s.groups.keys (out_at turn.Go (length x) x) rows)) c.deref-3.ensures.value
+    (projected_but v before s.groups.keys (out_at turn.Go (length x) x) rows)) c.deref-3.ensures.value
     (at_stores (λ (tb : List Table) (rs : Rows). AreGrouped tb v s rows
-    → KeepsRanked g (made_but v (side_by tb rs v) s.groups.keys (out_at turn.Go 0 c.deref-3.result.now) rows)
-    → KeepsRanked c.turn_sub_groups-gone.new.groups (made_but v (side_by tb rs v) s.groups.keys
+    → KeepsRanked g (projected_but v (side_by tb rs v) s.groups.keys (out_at turn.Go 0 c.deref-3.result.now) rows)
+    → KeepsRanked c.turn_sub_groups-gone.new.groups (projected_but v (side_by tb rs v) s.groups.keys
     (out_at turn.Go (length c.deref-3.result.now) c.deref-3.result.now) rows))
     (tables_in went) tables (rows_in went) hidden to_tables to_rows
     (subst (λ (ss : List Store). AreGrouped (tables_in ss) v s rows
-    → KeepsRanked g (made_but v (side_by (tables_in ss) (rows_in ss) v) s.groups.keys
+    → KeepsRanked g (projected_but v (side_by (tables_in ss) (rows_in ss) v) s.groups.keys
     (out_at turn.Go 0 c.deref-3.result.now) rows)
-    → KeepsRanked c.turn_sub_groups-gone.new.groups (made_but v (side_by (tables_in ss) (rows_in ss) v) s.groups.keys
+    → KeepsRanked c.turn_sub_groups-gone.new.groups (projected_but v (side_by (tables_in ss) (rows_in ss) v) s.groups.keys
     (out_at turn.Go (length c.deref-3.result.now) c.deref-3.result.now) rows)) c.deref-2.ensures.value
     (c.in_ok-gone.ensures.kept rows))
     (grouped c.image_law.ensures.values c.numbers_law.ensures.live c.sub_group_law.ensures.left_out tables v s c.args.kept.now g
@@ -455,7 +455,7 @@ returns-clause-kept c =
     (sym (table_there stores c.args.table side_store c.index-2.ensures c.requires.there))
     ∙ ap (λ (ss : List Slot). named_keys (table_at tables c.args.table) c.args.change.now ss)
     (sym (rows_there stores c.args.table side_store c.index-2.ensures c.requires.there)) in
-    let same : made_but v before s.groups.keys ts rows ≡ made_but v now s.groups.keys ts rows =
+    let same : projected_but v before s.groups.keys ts rows ≡ projected_but v now s.groups.keys ts rows =
     moved_alike c.image_law.ensures.values c.numbers_law.ensures.live c.sub_group_law.ensures.left_out tables v s c.args.kept.now g
     main c.in-Groups.is c.requires.right c.requires.view held few c.requires.links
     before now named ts
@@ -470,21 +470,21 @@ returns-clause-kept c =
     main c.in-Groups.is c.requires.right c.requires.view held few c.requires.links
     c.turn_sub_groups.new.groups now _ c.requires.kept (keys ∙ c.in_ok-gone.ensures.keys)
     (columns ∙ c.in_ok-gone.ensures.columns) (ranking ∙ c.turn_sub_groups-gone.ensures.ranking)
-    (subst (λ (x : List (List Key)). KeepsRanked c.turn_sub_groups.new.groups (made_but v now s.groups.keys x rows))
+    (subst (λ (x : List (List Key)). KeepsRanked c.turn_sub_groups.new.groups (projected_but v now s.groups.keys x rows))
     (ap (λ x. drop (length x) x) c.deref-5.ensures.value ∙ none_of ts)
     (at_stores (λ (tb : List Table) (rs : Rows). AreGrouped tb v s rows
-    → KeepsRanked c.turn_sub_groups-gone.new.groups (made_but v (side_by tb rs v) s.groups.keys c.deref-5.result.now rows)
-    → KeepsRanked c.turn_sub_groups.new.groups (made_but v (side_by tb rs v) s.groups.keys
+    → KeepsRanked c.turn_sub_groups-gone.new.groups (projected_but v (side_by tb rs v) s.groups.keys c.deref-5.result.now rows)
+    → KeepsRanked c.turn_sub_groups.new.groups (projected_but v (side_by tb rs v) s.groups.keys
     (drop (length c.deref-5.result.now) c.deref-5.result.now) rows))
     (tables_in back) tables (rows_in back) (rows_in stores) back_to_tables back_to_rows
     (subst (λ (ss : List Store). AreGrouped (tables_in ss) v s rows
-    → KeepsRanked c.turn_sub_groups-gone.new.groups (made_but v (side_by (tables_in ss) (rows_in ss) v) s.groups.keys
+    → KeepsRanked c.turn_sub_groups-gone.new.groups (projected_but v (side_by (tables_in ss) (rows_in ss) v) s.groups.keys
     c.deref-5.result.now rows)
-    → KeepsRanked c.turn_sub_groups.new.groups (made_but v (side_by (tables_in ss) (rows_in ss) v) s.groups.keys
+    → KeepsRanked c.turn_sub_groups.new.groups (projected_but v (side_by (tables_in ss) (rows_in ss) v) s.groups.keys
     (drop (length c.deref-5.result.now) c.deref-5.result.now) rows)) c.deref-4.ensures.value (come_kept rows))
     (grouped c.image_law.ensures.values c.numbers_law.ensures.live c.sub_group_law.ensures.left_out tables v s c.args.kept.now g
     main c.in-Groups.is c.requires.right c.requires.view held few c.requires.links)
-    (subst (λ (x : List (List Key)). KeepsRanked c.turn_sub_groups-gone.new.groups (made_but v now s.groups.keys x rows))
+    (subst (λ (x : List (List Key)). KeepsRanked c.turn_sub_groups-gone.new.groups (projected_but v now s.groups.keys x rows))
     (sym c.deref-5.ensures.value) (subst (KeepsRanked c.turn_sub_groups-gone.new.groups) same gone_kept)))))
     c.turn_sub_groups.ensures.kept c.turn_sub_groups.ensures.keys c.turn_sub_groups.ensures.columns
     c.turn_sub_groups.ensures.ranking

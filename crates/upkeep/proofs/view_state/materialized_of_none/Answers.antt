@@ -5,7 +5,7 @@ use Rattle.view_lang.specs.OutputsSeen.{outputs_of}
 use Rattle.group_order.specs.Ranked.{Ranking}
 use Rattle.group_state.specs.Aggregates.{AreReadBy}
 use Rattle.sub_groups.specs.Moved.{KeepRead}
-use Rattle.upkeep.proofs.view_state.kept_of_none.Goals as goal
+use Rattle.upkeep.proofs.view_state.materialized_of_none.Goals as goal
 
 pub returns-in_ok-new-in-Groups-clause-read : goal.returns-in_ok-new-in-Groups-clause-read
 returns-in_ok-new-in-Groups-clause-read c =

@@ -1,4 +1,4 @@
-use Rattle.liveviews.proofs.KeptLemmas.{Rest}
+use Rattle.liveviews.proofs.BufferedLemmas.{Rest}
 use Rattle.liveviews.proofs.recasting.batch.columns_law.Given as goal
 
 abbrev pub invariant-loop-column : goal.invariant-loop-column

@@ -53,11 +53,11 @@ use Rattle.std_alloc.proofs.ResultValues.{and_tt}
 use Rattle.std_heap.specs.contracts.Global as Heap
 use Rattle.std.specs.Prelude.{None}
 use Rattle.lv_c.proofs.AsBox.{E}
-use Rattle.lv_c.specs.contracts.slot.Slot as Full
-use Rattle.lv_c.specs.contracts.slot.Slot.empty as F
-use Rattle.lv_c.specs.contracts.slot.Slot.empty.Key.{name as #self}
-use Rattle.lv_c.proofs.slot.Slot.empty.Statement as stated
-use Rattle.lv_c.proofs.slot.Slot.empty.Code as code
+use Rattle.lv_c.specs.contracts.slot.HandleContent as Full
+use Rattle.lv_c.specs.contracts.slot.HandleContent.empty as F
+use Rattle.lv_c.specs.contracts.slot.HandleContent.empty.Key.{name as #self}
+use Rattle.lv_c.proofs.slot.HandleContent.empty.Statement as stated
+use Rattle.lv_c.proofs.slot.HandleContent.empty.Code as code
 
 abbrev stayed : Stays (F.ended).signature.params (F.ended).kept
 stayed = (stay_dropped (plain (λ _. Heap.the_row)) yes, tt)

@@ -4,7 +4,7 @@ use contract.Monad.{fact}
 use denote.Steps.{heard}
 use types.Kit.{rewrite}
 use Rattle.std.specs.Prelude.{Option, IsSome}
-use Rattle.lv_c.specs.contracts.slot.Slot as Full
+use Rattle.lv_c.specs.contracts.slot.HandleContent as Full
 use Rattle.lv_c.proofs.Filled.{held, is_held}
 use mathlib.Core.List.{List, [], ◌∷◌, ◌++◌}
 use seplogic.Ra.Ura.{Ura}
@@ -31,10 +31,10 @@ use denote.Triple.Walked.{says, Stays, stay_dropped, walk_of, ends_at, Goes-drop
 use Rattle.std_alloc.proofs.BoxSteps.Form.{D, B, word, box_typed}
 use Rattle.std_alloc.proofs.BoxSteps.Steps.{box_out, box_in}
 use Rattle.lv_c.proofs.AsBox.{E, FromSlot as From}
-use Rattle.lv_c.specs.contracts.slot.Slot.into_loose as F
-use Rattle.lv_c.specs.contracts.slot.Slot.into_loose.Key.{name as #self}
-use Rattle.lv_c.proofs.slot.Slot.into_loose.Statement as stated
-use Rattle.lv_c.proofs.slot.Slot.into_loose.Code as code
+use Rattle.lv_c.specs.contracts.slot.HandleContent.into_loose as F
+use Rattle.lv_c.specs.contracts.slot.HandleContent.into_loose.Key.{name as #self}
+use Rattle.lv_c.proofs.slot.HandleContent.into_loose.Statement as stated
+use Rattle.lv_c.proofs.slot.HandleContent.into_loose.Code as code
 
 abbrev stayed : Stays (F.ended).signature.params (F.ended).kept
 stayed = (stay_dropped From yes, tt)

@@ -26,10 +26,10 @@ use denote.Triple.Walked.{says, Stays, stay_dropped, walk_of, ends_at, Goes-drop
 use Rattle.std_alloc.proofs.BoxSteps.Form.{D, B, word, box_typed}
 use Rattle.std_alloc.proofs.BoxSteps.Steps.{box_out, box_in}
 use Rattle.lv_c.proofs.AsBox.{E, FromLoose as From}
-use Rattle.lv_c.specs.contracts.slot.Slot.of as F
-use Rattle.lv_c.specs.contracts.slot.Slot.of.Key.{name as #self}
-use Rattle.lv_c.proofs.slot.Slot.of.Statement as stated
-use Rattle.lv_c.proofs.slot.Slot.of.Code as code
+use Rattle.lv_c.specs.contracts.slot.HandleContent.of as F
+use Rattle.lv_c.specs.contracts.slot.HandleContent.of.Key.{name as #self}
+use Rattle.lv_c.proofs.slot.HandleContent.of.Statement as stated
+use Rattle.lv_c.proofs.slot.HandleContent.of.Code as code
 
 abbrev stayed : Stays (F.ended).signature.params (F.ended).kept
 stayed = (stay_dropped From yes, tt)

@@ -22,8 +22,8 @@ index-requires c =
     below in
     subst (λ n. c.args.place < n) (sym c.self.inside.states.ok.0) there
 
-pub show_kept-requires-clause-fresh : goal.show_kept-requires-clause-fresh
-show_kept-requires-clause-fresh c =
+pub show_materialized-requires-clause-fresh : goal.show_materialized-requires-clause-fresh
+show_materialized-requires-clause-fresh c =
     let below : c.args.place < length c.self.inside.views.items =
     subst (λ n. c.args.place < n) (ap length (sym c.in_ok-refresh.ensures.views) ∙ ap (λ p. length p.views)
     (sym c.self.view_is)) c.requires in
@@ -34,8 +34,8 @@ show_kept-requires-clause-fresh c =
     stale_there c.self.inside.states.items c.args.self.now.stale c.args.place c.index.result.now
     (ap (λ p. p.stale) c.self.view_is ∙ c.in_ok-refresh.ensures.stale) c.index.ensures there
 
-pub show_kept-requires-clause-current : goal.show_kept-requires-clause-current
-show_kept-requires-clause-current c =
+pub show_materialized-requires-clause-current : goal.show_materialized-requires-clause-current
+show_materialized-requires-clause-current c =
     let below : c.args.place < length c.self.inside.views.items =
     subst (λ n. c.args.place < n) (ap length (sym c.in_ok-refresh.ensures.views) ∙ ap (λ p. length p.views)
     (sym c.self.view_is)) c.requires in
@@ -47,6 +47,6 @@ show_kept-requires-clause-current c =
 
 pub invariant_of-self : goal.invariant_of-self
 invariant_of-self c =
-    opened_stays c.self.inside.stores.items c.show_kept.new.stores.items c.self.inside.views.items
+    opened_stays c.self.inside.stores.items c.show_materialized.new.stores.items c.self.inside.views.items
     c.self.inside.states.items
-    c.show_kept.ensures.same_rows c.self.invariant
+    c.show_materialized.ensures.same_rows c.self.invariant

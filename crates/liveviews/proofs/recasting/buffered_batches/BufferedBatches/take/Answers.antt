@@ -4,12 +4,12 @@ use Rattle.arrays.specs.Checked.{CheckedColumn}
 use Rattle.feed.specs.Columns.{cells_in, layouts_in}
 use Rattle.row_keys.specs.Batches.{HoldsCells}
 use Rattle.body_writer.specs.declared.from_columns.batch.Batch.{Batch}
-use Rattle.liveviews.specs.Kept.{taken_rows}
+use Rattle.liveviews.specs.Buffered.{buffered_rows}
 use Rattle.body_writer.specs.Heavy.{AreLightUpTo, HasHeavyRow}
-use Rattle.liveviews.specs.declared.recasting.kept_batches.KeptBatches.{KeptBatches}
+use Rattle.liveviews.specs.declared.recasting.buffered_batches.BufferedBatches.{BufferedBatches}
 use Rattle.liveviews.proofs.BatchLemmas.{rows-many, rows-refused, taken-rows}
-use Rattle.liveviews.proofs.KeptLemmas.{count-more, fit-rows, kept-more, one-more}
-use Rattle.liveviews.proofs.recasting.kept_batches.KeptBatches.take.Goals as goal
+use Rattle.liveviews.proofs.BufferedLemmas.{count-more, fit-rows, kept-more, one-more}
+use Rattle.liveviews.proofs.recasting.buffered_batches.BufferedBatches.take.Goals as goal
 
 pub returns-then-count-saturating_sub-clause-refused : goal.returns-then-count-saturating_sub-clause-refused
 returns-then-count-saturating_sub-clause-refused c =
@@ -38,8 +38,8 @@ returns-clause-taken c = λ before.
     c.in-Some.heaviest in
     let light = subst P c.deref-2.ensures.value c.in-Some.ensures.light in
     let holds = subst (All HoldsCells) c.deref.ensures.value c.columns_law.ensures in
-    taken-rows (layouts_in columns) (cells_in columns) (taken_rows c.args.self.now)
-    (taken_rows (record {
+    taken-rows (layouts_in columns) (cells_in columns) (buffered_rows c.args.self.now)
+    (buffered_rows (record {
       batches = c.push.new.self;
       rows = c.args.self.now.rows + c.args.count;
       heaviest = c.max-self.result;
@@ -51,7 +51,7 @@ pub returns-clause-kept : goal.returns-clause-kept
 returns-clause-kept c = λ kept.
     let columns = c.args.columns.items in
     let batch : Batch = record { columns = c.args.columns; rows = c.args.count } in
-    let next : KeptBatches = record {
+    let next : BufferedBatches = record {
       batches = c.push.new.self;
       rows = c.args.self.now.rows + c.args.count;
       heaviest = c.max-self.result;
