@@ -30,19 +30,16 @@ use Rattle.std.proofs.Common.{
   ◌∙◌,
   arith,
 }
-use Rattle.std.specs.Prelude.{slice_get, IsSome, nat_lt, if◌then◌else◌}
+use Rattle.std.specs.Prelude.{slice_get, nat_lt, if◌then◌else◌}
 use Rattle.std.proofs.lemmas.List.{drop_more, drop_all, length-map}
 use Rattle.std.proofs.lemmas.List.Elements.{All-append, All-get_or}
 use Rattle.std.proofs.lemmas.Bool.{ltb-false}
 use Rattle.std.proofs.lemmas.Option.{none-some}
-use Rattle.values.specs.Datum.{Datum, null, truth, whole, text, bytes, list, structure, Items, is_null}
-use Rattle.values.specs.Keys.{datum_of_key, key_of}
-use Rattle.values.specs.Layouts.{Holds}
+use Rattle.values.specs.Datum.{Datum, null, is_null}
+use Rattle.values.specs.Keys.{datum_of_key}
 use Rattle.values.specs.Logical.{NamedType, tree_of, trees_of}
-use Rattle.values.specs.ColTypes.{IsSingle, layout_of}
-use Rattle.values.specs.Rose.{Rose, node, Roses, kids_of}
-use Rattle.values.specs.declared.col_type.ColType.{ColType}
-use Rattle.values.specs.declared.col_type.ColType.TheVariants as col
+use Rattle.values.specs.ColTypes.{IsSingle}
+use Rattle.values.specs.Rose.{Rose, kids_of}
 use Rattle.values.specs.declared.key.Key.{Key}
 use Rattle.values.specs.declared.layout.Layout.{Layout}
 use Rattle.arrays.specs.Checked.{CheckedColumn}
@@ -75,49 +72,11 @@ use Rattle.row_keys.proofs.JoinedNumbers.{
   live_counted,
   taken_added,
 }
+use Rattle.row_keys.proofs.KeyCells.{held_key}
 use Rattle.row_keys.proofs.KeyFacts.{neither}
 use Rattle.row_keys.proofs.Places.{some_same}
 
 -- What a column of a single type holds is a key.
-
-no_list : (s : ColType) (kids : Roses Layout) (es : Items) → IsSingle s → Holds (node (layout_of s) kids) (list es) → ⊥
-no_list col.Bool kids es single h = h
-no_list (col.Int w s) kids es single h = h
-no_list (col.Decimal p s) kids es single h = h
-no_list (col.Date u) kids es single h = h
-no_list (col.Time u) kids es single h = h
-no_list (col.Timestamp u z) kids es single h = h
-no_list (col.Duration u) kids es single h = h
-no_list (col.Utf8 o) kids es single h = h
-no_list (col.Binary o) kids es single h = h
-no_list (col.FixedSizeBinary w) kids es single h = h
-no_list (col.List o) kids es single h = single
-no_list col.Struct kids es single h = single
-
-no_structure : (s : ColType) (kids : Roses Layout) (es : Items) → IsSingle s
-    → Holds (node (layout_of s) kids) (structure es) → ⊥
-no_structure col.Bool kids es single h = h
-no_structure (col.Int w s) kids es single h = h
-no_structure (col.Decimal p s) kids es single h = h
-no_structure (col.Date u) kids es single h = h
-no_structure (col.Time u) kids es single h = h
-no_structure (col.Timestamp u z) kids es single h = h
-no_structure (col.Duration u) kids es single h = h
-no_structure (col.Utf8 o) kids es single h = h
-no_structure (col.Binary o) kids es single h = h
-no_structure (col.FixedSizeBinary w) kids es single h = h
-no_structure (col.List o) kids es single h = single
-no_structure col.Struct kids es single h = single
-
-holds_key : (s : ColType) (kids : Roses Layout) (d : Datum) → IsSingle s → Holds (node (layout_of s) kids) d
-    → IsSome (key_of d)
-holds_key s kids null single h = refl
-holds_key s kids (truth b) single h = refl
-holds_key s kids (whole n) single h = refl
-holds_key s kids (text t) single h = refl
-holds_key s kids (bytes b) single h = refl
-holds_key s kids (list es) single h = absurd (no_list s kids es single h)
-holds_key s kids (structure es) single h = absurd (no_structure s kids es single h)
 
 alike_at :
     (fs : List (Rose NamedType)) (columns : List CheckedColumn) (k : ℕ) (f : Rose NamedType) (c : CheckedColumn)
@@ -143,7 +102,7 @@ key_within t columns rows is batch = (alike_within t.columns columns t.key is.ke
         omega (arith, r)
 
 pub single_holds : (f : Rose NamedType) (u : Rose Layout) → IsSingle (type_of f) → IsAlike (tree_of f) u → HoldsKeys u
-single_holds (node f kids) u single alike = λ d held. holds_key f.col_type (trees_of kids) d single (alike.holds d held)
+single_holds f u single alike = λ d held. held_key f d single (alike.holds d held)
 
 pub key_column :
     (t : Table) (columns : List CheckedColumn) (rows : ℕ) (c : CheckedColumn) → IsTable t → IsBatch t rows columns
@@ -201,17 +160,6 @@ keyed_new t [] (k ∷ ks) h = absurd (cc h)
 keyed_new t (r ∷ rs) [] h = absurd (cc h)
 keyed_new t (r ∷ rs) (k ∷ ks) h = (cc h, keyed_new t rs ks (cc h))
 
-pub slots_appended :
-    (t : Table) (stored : List (List Datum)) (xs new : List Numbered)
-    (columns : List CheckedColumn) (n : ℕ)
-    → IsStored t stored xs → PushesKeys (keys_in t (batch_rows n columns)) xs new
-    → joined (stored ++ batch_rows n columns) new
-    ≡ joined stored xs ++ map new_slot (batch_rows n columns)
-slots_appended t stored xs new columns n is p =
-    ap (λ ys. joined (stored ++ batch_rows n columns) ys) p.pushed
-    ∙ joined_added t stored (batch_rows n columns) xs p.keys is.keyed
-    (keyed_new t (batch_rows n columns) p.keys p.are)
-
 pub count_added : (xs : List Numbered) (ks : List Key) → live_count (xs ++ map fresh ks) ≡ live_count xs + length ks
 count_added [] [] = refl
 count_added [] (k ∷ ks) = let c = count_added [] ks in omega (arith, c)
@@ -236,37 +184,6 @@ given_added [] (j ∷ ks) given none (suc n) k at =
     given_added [] ks given a.1 n k at
 given_added (x ∷ xs) ks given none zero k at = given 0 k at
 given_added (x ∷ xs) ks given none (suc n) k at = given_added xs ks (λ m j there. given (suc m) j there) none n k at
-
-pub stored_appended :
-    (t : Table) (stored : List (List Datum)) (xs new : List Numbered)
-    (columns : List CheckedColumn) (n appended : ℕ)
-    → IsStored t stored xs → IsBatch t n columns → PushesKeys (keys_in t (batch_rows n columns)) xs new
-    → are_many t.max_rows (live_count xs) appended n ≡ false → any_heavy (layouts_in columns) (batch_rows n columns) ≡
-    false → All HoldsCells columns
-    → IsStored t (stored ++ batch_rows n columns) new
-stored_appended t stored xs new columns n appended is batch p few light holds =
-    let held = rows_held t columns n 0 n batch.alike holds batch.long (omega arith) in
-    let lights = none_heavy t (batch_rows n columns)
-    (alike_any (layouts_of t) (layouts_in columns) (batch_rows n columns) batch.alike ∙ light) in
-    let N : List Datum → Type 0 = λ ds. has_null ds ≡ false in
-    let G : List Numbered → Type 0 = λ ys. AreGiven ys in
-    let R : List Numbered → Type 0 = λ ys. AreKeyed t (stored ++ batch_rows n columns) ys in
-    let parts = neither (nat_lt t.max_rows (live_count xs + n)) _ few in
-    let within : live_count xs + n ≤ t.max_rows = ltb-false t.max_rows (live_count xs + n) parts.0 in
-    let many : length p.keys ≡ n =
-    sym (length-map p.keys datum_of_key) ∙ ap length p.are ∙ length-map (batch_rows n columns) (key_in t)
-    ∙ batch_counted columns n in
-    let counted : live_count new ≡ live_count xs + length p.keys = ap live_count p.pushed ∙ count_added xs p.keys in
-    record {
-      table = is.table;
-      right = All-append (IsRight t) stored (batch_rows n columns) is.right
-          (λ k d below. inr (record { held = held k d below; light = lights k d below }));
-      given = subst G (sym p.pushed) (given_added xs p.keys is.given (subst N (sym p.are) p.given));
-      keyed = subst R (sym p.pushed)
-          (keyed_added t stored (batch_rows n columns) xs (map fresh p.keys) is.keyed
-          (keyed_new t (batch_rows n columns) p.keys p.are));
-      few = omega (arith, counted, many, within);
-    }
 
 -- the causes
 
@@ -349,36 +266,67 @@ many_same t stored xs columns n b is h =
     (keyed_length t stored xs is.keyed).1
     ∙ ap (λ m. are_many t.max_rows (live_count xs) (length xs) m) (batch_counted columns n) ∙ h
 
-pub batch_fits :
-    (t : Table) (stored : List (List Datum)) (xs new : List Numbered)
-    (columns : List CheckedColumn) (n : ℕ) → IsStored t stored xs
-    → IsBatch t n columns → PushesKeys (keys_in t (batch_rows n columns)) xs new
-    → are_many t.max_rows (live_count xs) (length xs) n ≡ false
-    → any_heavy (layouts_in columns) (batch_rows n columns) ≡ false
-    → cause_of t (contents_of (joined stored xs)) (append (batch_rows n columns)) ≡ None
-batch_fits t stored xs new columns n is batch p few light =
-    cause_none t (contents_of (joined stored xs)) (batch_rows n columns) p.given
-    (single_keys t stored xs new (batch_rows n columns) is p)
-    (many_same t stored xs columns n false is few)
-    (alike_any (layouts_of t) (layouts_in columns) (batch_rows n columns) batch.alike ∙ light)
+-- A batch whose keys are pushed, and what is said of its rows
+module _ {t : Table} {stored : List (List Datum)} {xs new : List Numbered} {columns : List CheckedColumn} {n : ℕ}
+    (is : IsStored t stored xs) (batch : IsBatch t n columns)
+    (pushed : PushesKeys (keys_in t (batch_rows n columns)) xs new) where
+  rows_keyed : AreKeyed t (batch_rows n columns) (map fresh pushed.keys)
+  rows_keyed = keyed_new t (batch_rows n columns) pushed.keys pushed.are
 
-pub rows_unfit :
-    (t : Table) (stored : List (List Datum)) (xs new : List Numbered)
-    (columns : List CheckedColumn) (n : ℕ) (e : EditFault)
-    → IsStored t stored xs → IsBatch t n columns → PushesKeys (keys_in t (batch_rows n columns)) xs new
-    → RefusesRows t.max_rows (live_count xs) (length xs) n columns e
-    → Refuses (cause_of t (contents_of (joined stored xs)) (append (batch_rows n columns))) e
-rows_unfit t stored xs new columns n (fault.Unfit unfit.TooManyRows) is batch p h =
-    cause_many t (contents_of (joined stored xs)) (batch_rows n columns) p.given
-    (single_keys t stored xs new (batch_rows n columns) is p)
-    (many_same t stored xs columns n true is h)
-rows_unfit t stored xs new columns n (fault.Unfit unfit.CellTooHeavy) is batch p h =
-    cause_heavy t (contents_of (joined stored xs)) (batch_rows n columns) p.given
-    (single_keys t stored xs new (batch_rows n columns) is p)
-    (many_same t stored xs columns n false is h.0)
-    (alike_any (layouts_of t) (layouts_in columns) (batch_rows n columns) batch.alike ∙ h.1)
-rows_unfit t stored xs new columns n fault.Memory is batch p h = tt
-rows_unfit t stored xs new columns n (fault.Unfit u) is batch p h = absurd h
+  pub slots_appended : joined (stored ++ batch_rows n columns) new
+      ≡ joined stored xs ++ map new_slot (batch_rows n columns)
+  slots_appended =
+      ap (λ ys. joined (stored ++ batch_rows n columns) ys) pushed.pushed
+      ∙ joined_added t stored (batch_rows n columns) xs pushed.keys is.keyed rows_keyed
+
+  pub stored_appended : (appended : ℕ) → are_many t.max_rows (live_count xs) appended n ≡ false
+      → any_heavy (layouts_in columns) (batch_rows n columns) ≡ false → All HoldsCells columns
+      → IsStored t (stored ++ batch_rows n columns) new
+  stored_appended appended few light holds =
+      let held = rows_held t columns n 0 n batch.alike holds batch.long (omega arith) in
+      let lights = none_heavy t (batch_rows n columns)
+      (alike_any (layouts_of t) (layouts_in columns) (batch_rows n columns) batch.alike ∙ light) in
+      let N : List Datum → Type 0 = λ ds. has_null ds ≡ false in
+      let parts = neither (nat_lt t.max_rows (live_count xs + n)) _ few in
+      let within : live_count xs + n ≤ t.max_rows = ltb-false t.max_rows (live_count xs + n) parts.0 in
+      let many : length pushed.keys ≡ n =
+      sym (length-map pushed.keys datum_of_key) ∙ ap length pushed.are ∙ length-map (batch_rows n columns) (key_in t)
+      ∙ batch_counted columns n in
+      let counted : live_count new ≡ live_count xs + length pushed.keys =
+      ap live_count pushed.pushed ∙ count_added xs pushed.keys in
+      record {
+        table = is.table;
+        right = All-append (IsRight t) stored (batch_rows n columns) is.right
+            (λ k d below. inr (record { held = held k d below; light = lights k d below }));
+        given = subst AreGiven (sym pushed.pushed)
+            (given_added xs pushed.keys is.given (subst N (sym pushed.are) pushed.given));
+        keyed = subst (AreKeyed t (stored ++ batch_rows n columns)) (sym pushed.pushed)
+            (keyed_added t stored (batch_rows n columns) xs (map fresh pushed.keys) is.keyed rows_keyed);
+        few = omega (arith, counted, many, within);
+      }
+
+  pub batch_fits : are_many t.max_rows (live_count xs) (length xs) n ≡ false
+      → any_heavy (layouts_in columns) (batch_rows n columns) ≡ false
+      → cause_of t (contents_of (joined stored xs)) (append (batch_rows n columns)) ≡ None
+  batch_fits few light =
+      cause_none t (contents_of (joined stored xs)) (batch_rows n columns) pushed.given
+      (single_keys t stored xs new (batch_rows n columns) is pushed)
+      (many_same t stored xs columns n false is few)
+      (alike_any (layouts_of t) (layouts_in columns) (batch_rows n columns) batch.alike ∙ light)
+
+  pub rows_unfit : (e : EditFault) → RefusesRows t.max_rows (live_count xs) (length xs) n columns e
+      → Refuses (cause_of t (contents_of (joined stored xs)) (append (batch_rows n columns))) e
+  rows_unfit (fault.Unfit unfit.TooManyRows) h =
+      cause_many t (contents_of (joined stored xs)) (batch_rows n columns) pushed.given
+      (single_keys t stored xs new (batch_rows n columns) is pushed)
+      (many_same t stored xs columns n true is h)
+  rows_unfit (fault.Unfit unfit.CellTooHeavy) h =
+      cause_heavy t (contents_of (joined stored xs)) (batch_rows n columns) pushed.given
+      (single_keys t stored xs new (batch_rows n columns) is pushed)
+      (many_same t stored xs columns n false is h.0)
+      (alike_any (layouts_of t) (layouts_in columns) (batch_rows n columns) batch.alike ∙ h.1)
+  rows_unfit fault.Memory h = tt
+  rows_unfit (fault.Unfit u) h = absurd h
 
 pub appended_back :
     (slots new : List Slot) (columns : List CheckedColumn) (n : ℕ) → new ≡ slots ++ map new_slot (batch_rows n columns)

@@ -2,7 +2,7 @@ mod Places
 mod KeyTables
 mod Indexes
 mod IndexChanges
-mod KeyFacts
+pub mod KeyFacts
 mod RowCells
 mod JoinedNumbers
 mod RetractedRows
@@ -16,6 +16,7 @@ mod KeysOfBatch
 mod HeavyRows
 mod LightRows
 mod HeldRows
+pub mod KeyCells
 mod AppendedBatches
 mod BatchKeys
 mod SingleKeys

@@ -40,6 +40,7 @@ use Rattle.row_keys.specs.Slots.{IsLiveAt, IsThere, Slot, contents_of, live, row
 use Rattle.row_keys.specs.Store.{IsKnown, IsUnknown, Store}
 use Rattle.row_keys.specs.Stored.{AreGiven, AreKeyed, joined, live_keys}
 use Rattle.row_keys.proofs.JoinedNumbers.{joined_at, keys_live, unused_among}
+use Rattle.row_keys.proofs.KeyCells.{keyless}
 use Rattle.row_keys.proofs.KeyFacts.{key_datum, neither, or_none, same_refl, same_sym}
 use Rattle.row_keys.proofs.Places.{some_same}
 use Rattle.row_keys.proofs.RetractedRows.{among_live}
@@ -103,25 +104,6 @@ find_some t d (s ∷ ss) (suc n) there is same single =
         ap (λ b. cond b (Some s.row) (find (λ row. same_key d (key_in t row)) (live ss))) other ∙ rest a.1
     by false one rest = rest one
 
--- A list or a struct is no row's key.
-
-no_key : (d : Datum) (k : Key) → key_of d ≡ None → same_key d (datum_of_key k) ≡ false
-no_key null k h = absurd (none-some key.Null (sym h))
-no_key (truth b) k h = absurd (none-some (key.Bool b) (sym h))
-no_key (whole n) k h = absurd (none-some (key.Int n) (sym h))
-no_key (text s) k h = absurd (none-some (key.Utf8 s) (sym h))
-no_key (bytes b) k h = absurd (none-some (key.Binary b) (sym h))
-no_key (list es) (key.Bool b) h = refl
-no_key (list es) (key.Int n) h = refl
-no_key (list es) (key.Utf8 s) h = refl
-no_key (list es) (key.Binary b) h = refl
-no_key (list es) key.Null h = refl
-no_key (structure es) (key.Bool b) h = refl
-no_key (structure es) (key.Int n) h = refl
-no_key (structure es) (key.Utf8 s) h = refl
-no_key (structure es) (key.Binary b) h = refl
-no_key (structure es) key.Null h = refl
-
 none_live : (d : Datum) (xs : List Numbered) → key_of d ≡ None → is_among d (live_keys xs) ≡ false
 unfolding is_among
 none_live d [] h = refl
@@ -129,7 +111,7 @@ none_live d (x ∷ xs) h = by x.live (none_live d xs h)
   where
     by : (b : Bool) → is_among d (live_keys xs) ≡ false
         → is_among d (if b then datum_of_key x.key ∷ live_keys xs else live_keys xs) ≡ false
-    by true rest = or_none (same_key d (datum_of_key x.key)) (is_among d (live_keys xs)) (no_key d x.key h) rest
+    by true rest = or_none (same_key d (datum_of_key x.key)) (is_among d (live_keys xs)) (keyless d x.key h) rest
     by false rest = rest
 
 abbrev store_of : Table → List (List Datum) → List Numbered → ℕ → Store

@@ -83,7 +83,7 @@ module _ (t : Table) (stored : List (List Datum)) (old new : List Numbered) (col
   put_can = replaced_can t stored old (keys_in t rows) ns is.right is.keys.found is.keys.pushed.single
 
   pub put_slots : joined (stored ++ rows) new ≡ retracted ns slots ++ map new_slot rows
-  put_slots = slots_appended t stored off new columns n gone is.keys.pushed
+  put_slots = slots_appended gone is.batch is.keys.pushed
       ∙ ap (λ ss. ss ++ map new_slot rows) (joined_off stored ns old)
 
   -- how many rows are live before those of the batch come
@@ -112,7 +112,7 @@ module _ (t : Table) (stored : List (List Datum)) (old new : List Numbered) (col
   pub put_stored : are_many t.max_rows (live_count off) (length old) n ≡ false
       → any_heavy (layouts_in columns) rows ≡ false → All HoldsCells columns → IsStored t (stored ++ rows) new
   put_stored few light holds =
-      stored_appended t stored off new columns n (length old) gone is.batch is.keys.pushed few light holds
+      stored_appended gone is.batch is.keys.pushed (length old) few light holds
 
   world_gone : contents_of (joined stored off) ≡ applied t (retract (keys_at t ns slots)) (contents_of slots)
   world_gone = off_world t stored old off ns is.right is.distinct put_can refl
@@ -138,7 +138,7 @@ module _ (t : Table) (stored : List (List Datum)) (old new : List Numbered) (col
       → any_heavy (layouts_in columns) rows ≡ false → cause_of t (contents_of slots) (put rows) ≡ None
   put_fits few light =
       let P : ℕ → Type 0 = λ m. are_many t.max_rows (live_count off) m n ≡ false in
-      put_cause ∙ batch_fits t stored off new columns n gone is.batch is.keys.pushed
+      put_cause ∙ batch_fits gone is.batch is.keys.pushed
       (subst P (sym (off_long ns old)) few) light
 
   pub put_unfit : (all before : ℕ) (e : EditFault) → all ≡ live_count new → before ≡ length old
@@ -148,7 +148,7 @@ module _ (t : Table) (stored : List (List Datum)) (old new : List Numbered) (col
       let P : ℕ → Type 0 = λ m. RefusesRows t.max_rows m before n columns e in
       let Q : ℕ → Type 0 = λ m. RefusesRows t.max_rows (live_count off) m n columns e in
       subst (λ o. Refuses o e) (sym put_cause)
-      (rows_unfit t stored off new columns n e gone is.batch is.keys.pushed
+      (rows_unfit gone is.batch is.keys.pushed e
       (subst Q (start ∙ sym (off_long ns old)) (subst P (others all counted) refuses)))
 
   pub put_can_undo : CanUndoPut t n ns (joined (stored ++ rows) new)
