@@ -1,5 +1,36 @@
 -- A view that looks up a table whose rows change, brought up to the change by the rows that refer to its keys.
-use Rattle.std.proofs.Common.{◌≡◌, ◌≤◌, ◌||◌, ◌&&◌, All, Err, Ok, Result, not, ℕ, zero, suc, ◌<◌, length, Bool, true, false, List, [], ◌∷◌, Option, None, Some, ap, arith, map, refl, subst, sym, ◌∙◌}
+use Rattle.std.proofs.Common.{
+  ◌≡◌,
+  ◌≤◌,
+  ◌||◌,
+  ◌&&◌,
+  All,
+  Err,
+  Ok,
+  Result,
+  not,
+  ℕ,
+  zero,
+  suc,
+  ◌<◌,
+  length,
+  Bool,
+  true,
+  false,
+  List,
+  [],
+  ◌∷◌,
+  Option,
+  None,
+  Some,
+  ap,
+  arith,
+  map,
+  refl,
+  subst,
+  sym,
+  ◌∙◌,
+}
 use Rattle.std.specs.List.{list_any}
 use Rattle.std.specs.List.Sorted.{IsStrictlySortedBy}
 use Rattle.std.specs.Ordering.{nat_cmp}
@@ -92,7 +123,8 @@ current_without tables n u c old new v s side before current =
     subst (λ (rows : NumberedRows). IsCurrent tables v (side_by tables (swapped_at n u c new) v) s rows)
     (main_same n old new side before.differs)
     (subst (λ (rs : Rows). IsCurrent tables v (side_by tables rs v) s (numbered (rows_at old 0))) set
-    (current_same tables v (side_by tables old v) (side_by tables (slice_set old n slots) v) s (numbered (rows_at old 0))
+    (current_same tables v (side_by tables old v) (side_by tables (slice_set old n slots) v) s
+    (numbered (rows_at old 0))
     (sides_same tables v.lookup old n slots (sym before.live_same)) current))
 
 pub world_placed : (rows : Rows) (n : ℕ) (slots : List Slot) → n < length rows
@@ -137,10 +169,15 @@ pub look_some : (o : Option Lookup) (n : ℕ) → looks_up o n ≡ true → (l :
 look_some None n look = absurd (true≢false (sym look))
 look_some (Some l) n look = (l, refl)
 
-pub neither_one : (a b : Bool) → (a || not b) ≡ false → (a ≡ false) × (b ≡ true)
-neither_one true b h = absurd (true≢false h)
-neither_one false true h = (refl, refl)
-neither_one false false h = absurd (true≢false h)
+-- The test answers whether a view is stale, or doesn't look a table up.
+pub is_seen : (stale : Bool) {looks seen : Bool} → seen ≡ looks → (stale || not seen) ≡ false
+    → (stale ≡ false) × (looks ≡ true)
+is_seen stale {looks = looks} is h = neither_one stale looks (ap (λ b. stale || not b) (sym is) ∙ h)
+  where
+    neither_one : (a b : Bool) → (a || not b) ≡ false → (a ≡ false) × (b ≡ true)
+    neither_one true b h = absurd (true≢false h)
+    neither_one false true h = (refl, refl)
+    neither_one false false h = absurd (true≢false h)
 
 not_seen : (a b : Bool) → (a || not b) ≡ true → a ≡ false → b ≡ false
 not_seen true b h fresh = absurd (true≢false fresh)
@@ -149,19 +186,31 @@ not_seen false false h fresh = refl
 
 -- one that is stale, or doesn't look the table up
 pub left_as_was :
-    (tables : List Table) (n : ℕ) (u : Turn) (c : TableChange) (old new : Rows) (v : View) (s : ViewState) → 0 < n
-    → (s.stale || not (looks_up v.lookup n)) ≡ true → IsBefore n u c old new → IsCurrentWith tables old v s
-    → IsCurrentWith tables new v s
-left_as_was tables n u c old new v s side apart before current = λ fresh.
-    current_after tables n old new v s side before.differs (not_seen s.stale (looks_up v.lookup n) apart fresh) current
-    fresh
+    (tables : List Table) (n : ℕ) (u : Turn) (c : TableChange) (old new : Rows) (v : View) (s : ViewState)
+    {seen : Bool} → 0 < n → seen ≡ looks_up v.lookup n → (s.stale || not seen) ≡ true → IsBefore n u c old new
+    → IsCurrentWith tables old v s → IsCurrentWith tables new v s
+left_as_was tables n u c old new v s side is apart before current = λ fresh.
+    current_after tables n old new v s side before.differs
+    (not_seen s.stale (looks_up v.lookup n) (ap (λ b. s.stale || not b) (sym is) ∙ apart) fresh) current fresh
 
-module _ (laws : Laws) (tables : List Table) (n : ℕ) (u : Turn) (c : TableChange) (rows : Rows) (v : View)
-    (s : ViewState) (keys : List Key) (ns : List ℕ) (side : 0 < n) (below : n < length rows)
-    (looks : looks_up v.lookup n ≡ true) (fresh : s.stale ≡ false)
-    (named : map datum_of_key keys ≡ named_keys (table_at tables n) c (rows_at rows n))
-    (ascending : IsStrictlySortedBy nat_cmp ns) (r : RowsByKey) (is : s.links ≡ links.Rows r)
-    (are : (m : ℕ) → is_numbered ns m ≡ list_any (λ k. refers_to r k m) keys) where
+-- A view that isn't stale looks up table n, and links say which rows of the main table refer to the keys that a change
+-- of the table names: those of these numbers.
+pub record AreFound
+    (tables : List Table) (n : ℕ) (c : TableChange) (rows : Rows) (v : View) (s : ViewState) (keys : List Key)
+    (ns : List ℕ) (r : RowsByKey) :
+    Type 0 where
+  pub side : 0 < n
+  pub below : n < length rows
+  pub looks : looks_up v.lookup n ≡ true
+  pub fresh : s.stale ≡ false
+  pub named : map datum_of_key keys ≡ named_keys (table_at tables n) c (rows_at rows n)
+  pub ascending : IsStrictlySortedBy nat_cmp ns
+  pub is : s.links ≡ links.Rows r
+  pub are : (m : ℕ) → is_numbered ns m ≡ list_any (λ k. refers_to r k m) keys
+
+module _ (laws : Laws) {tables : List Table} {n : ℕ} (u : Turn) {c : TableChange} {rows : Rows} {v : View}
+    {s : ViewState} {keys : List Key} {ns : List ℕ} {r : RowsByKey}
+    (found : AreFound tables n c rows v s keys ns r) where
   abbrev pub main : List Slot
   main = rows_at rows 0
 
@@ -172,29 +221,31 @@ module _ (laws : Laws) (tables : List Table) (n : ℕ) (u : Turn) (c : TableChan
   made_with = projected_row v (side_by tables rows v)
 
   pub look : (l : Lookup) × (v.lookup ≡ Some l)
-  look = look_some v.lookup n looks
+  look = look_some v.lookup n found.looks
 
   module _ (old : Rows) (before : IsBefore n u c old rows) (current : IsCurrentWith tables old v s) where
     was : IsCurrent tables v (side_by tables (swapped_at n u c rows) v) s (numbered main)
-    was = current_without tables n u c old rows v s side before current
+    was = current_without tables n u c old rows v s found.side before current
 
     keeps : KeepsReferrers r (image (referring_row v) (numbered main))
     keeps =
-        subst (λ (l : Links). KeepsLinks l (image (link_row l v) (numbered main))) is (was fresh).1.1
+        subst (λ (l : Links). KeepsLinks l (image (link_row l v) (numbered main))) found.is (was found.fresh).1.1
 
     pub refer : AreReferring look.0 (named_keys (table_at tables n) c (rows_at rows n)) main ns
     refer =
-        subst (λ (ks : List Datum). AreReferring look.0 ks main ns) named
-        (are_referring laws.keys laws.at laws.ascend laws.numbers v look.0 r main keys ns look.1 keeps are)
+        subst (λ (ks : List Datum). AreReferring look.0 ks main ns) found.named
+        (are_referring laws.keys laws.at laws.ascend laws.numbers v look.0 r main keys ns look.1 keeps found.are)
 
     pub there : All (λ m. m < length main) ns
     there = referring_below look.0 (named_keys (table_at tables n) c (rows_at rows n)) main ns refer
 
     can : CanRetract ns main
-    can = can_retract laws.can_go look.0 (named_keys (table_at tables n) c (rows_at rows n)) main ns refer ascending
+    can =
+        can_retract laws.can_go look.0 (named_keys (table_at tables n) c (rows_at rows n)) main ns refer
+        found.ascending
 
     unmoved : is_moved (width_in tables) v ≡ false
-    unmoved = subst (AreLinks tables v s.kept) is (was fresh).1.0
+    unmoved = subst (AreLinks tables v s.kept) found.is (was found.fresh).1.0
 
     pub counted : length ns
         ≤ count_by (opened_for (width_in tables) v n (named_keys (table_at tables n) c (rows_at rows n))) (live main)
@@ -202,23 +253,23 @@ module _ (laws : Laws) (tables : List Table) (n : ℕ) (u : Turn) (c : TableChan
         let named : List Datum = named_keys (table_at tables n) c (rows_at rows n) in
         subst (λ (b : Bool). length ns ≤ count_by (λ row. not b && refers_by v.lookup n named row) (live main))
         (sym unmoved)
-        (referring_counted laws.can_go v.lookup look.0 n named main ns look.1 looks refer ascending)
+        (referring_counted laws.can_go v.lookup look.0 n named main ns look.1 found.looks refer found.ascending)
 
     -- each of them refers to one of the keys
     pub refer_all : All (λ m. refers_by v.lookup n (map datum_of_key keys) (row_of main m) ≡ true) ns
     refer_all =
-        subst (λ (ks : List Datum). All (λ m. refers_by v.lookup n ks (row_of main m) ≡ true) ns) (sym named)
-        (referring_rows v.lookup look.0 n (named_keys (table_at tables n) c (rows_at rows n)) main ns look.1 looks
+        subst (λ (ks : List Datum). All (λ m. refers_by v.lookup n ks (row_of main m) ≡ true) ns) (sym found.named)
+        (referring_rows v.lookup look.0 n (named_keys (table_at tables n) c (rows_at rows n)) main ns look.1 found.looks
         refer)
 
     change_leads : Leads (image made_without (numbered main)) (reprojected_change tables rows v n u c ns)
         (image made_with (numbered main))
     change_leads =
         let names : List Datum = named_keys (table_at tables n) c (rows_at rows n) in
-        remade_leads made_without made_with main laws.at laws.fits laws.ascend laws.numbers ns ascending
+        remade_leads made_without made_with main laws.at laws.fits laws.ascend laws.numbers ns found.ascending
         (λ m listed. lives look.0 names main m (sym (refer m) ∙ listed))
         (left_alike v look.0 (side_by tables (swapped_at n u c rows) v) (side_by tables rows v) names main ns look.1
-        (sides_swapped tables v.lookup n u c rows below looks) refer)
+        (sides_swapped tables v.lookup n u c rows found.below found.looks) refer)
 
     change_few : (t : Table) → IsTable t → length (live main) ≤ t.max_rows
         → IsFew (image made_without (numbered main)) (reprojected_change tables rows v n u c ns)
@@ -233,10 +284,11 @@ module _ (laws : Laws) (tables : List Table) (n : ℕ) (u : Turn) (c : TableChan
     -- what is asked where the change is made
     pub remake_needs : (t : Table) → IsTable t → length (live main) ≤ t.max_rows
         → (kept : NumberedRows) × (IsMaterialized v s.kept kept
-        × (Fits kept (reprojected_change tables rows v n u c ns) × IsFew kept (reprojected_change tables rows v n u c ns)))
+        × (Fits kept (reprojected_change tables rows v n u c ns)
+        × IsFew kept (reprojected_change tables rows v n u c ns)))
     remake_needs t right held = (
       image made_without (numbered main),
-      ((was fresh).0, (change_leads.fits, change_few t right held)),
+      ((was found.fresh).0, (change_leads.fits, change_few t right held)),
     )
 
     -- and what is kept then
@@ -247,9 +299,9 @@ module _ (laws : Laws) (tables : List Table) (n : ℕ) (u : Turn) (c : TableChan
         → IsCurrentWith tables rows v new
     remade_kept new same kept = λ still. (
       subst (λ (made : NumberedRows). IsMaterialized v new.kept made) change_leads.patched_is
-          (kept (image made_without (numbered main)) change_leads.fits (was fresh).0),
+          (kept (image made_without (numbered main)) change_leads.fits (was found.fresh).0),
       subst (λ (l : Links). AreLinks tables v new.kept l × KeepsLinks l (image (link_row l v) (numbered main)))
-          (sym (same ∙ is)) (unmoved, keeps),
+          (sym (same ∙ found.is)) (unmoved, keeps),
     )
 
 -- the table that a view looks up

@@ -78,7 +78,7 @@ module _ (unseen : ReleasedUnseen) (stores : List Store) (n : ℕ) (s t : Store)
   pub live_released : (views : List View) (states : List ViewState) → AreLive stores views states
       → AreLive (slice_set stores n t) views states
   live_released views states are = record {
-    these = changed_of stores views n s t changed are.these;
+    these = changed_of changed are.these;
     current =
         let rows = released_at n ns (rows_in stores) in
         subst (λ (rs : Rows). AreCurrent (tables_in (slice_set stores n t)) rs views states) (sym rows_released)

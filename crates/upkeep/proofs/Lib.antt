@@ -8,6 +8,7 @@ pub mod MadeRows
 pub mod EachRow
 pub mod Mixtures
 pub mod LookedUpViews
+pub mod NextViews
 pub mod FollowedViews
 pub mod StaleViews
 pub mod LastRows
@@ -15,6 +16,7 @@ pub mod ArrivalRows
 pub mod MainTable
 pub mod MainEdits
 pub mod SwappedRows
+pub mod StoreContents
 pub mod SwappedStores
 pub mod FollowedLookups
 pub mod ReferringRows

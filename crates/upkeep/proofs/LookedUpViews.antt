@@ -1,5 +1,35 @@
 -- Views that look up a table whose rows change, and those that don't.
-use Rattle.std.proofs.Common.{◌≡◌, ℕ, zero, suc, ◌+◌, ◌*◌, ◌<◌, ◌≤◌, ◌≢◌, ◌||◌, Bool, true, false, List, [], ◌∷◌, Option, None, Some, add-one, ap, arith, get_or, length, refl, subst, sym, take, ◌∙◌}
+use Rattle.std.proofs.Common.{
+  ◌≡◌,
+  ℕ,
+  zero,
+  suc,
+  ◌+◌,
+  ◌*◌,
+  ◌<◌,
+  ◌≤◌,
+  ◌≢◌,
+  ◌||◌,
+  Bool,
+  true,
+  false,
+  List,
+  [],
+  ◌∷◌,
+  Option,
+  None,
+  Some,
+  add-one,
+  ap,
+  arith,
+  get_or,
+  length,
+  refl,
+  subst,
+  sym,
+  take,
+  ◌∙◌,
+}
 use Rattle.std.specs.List.{list_any}
 use Rattle.std.specs.Prelude.{cond, count_by, slice_set}
 use Rattle.std.proofs.lemmas.List.Sums.{sum_by-cons}
@@ -17,7 +47,7 @@ use Rattle.row_keys.specs.Numbered.{numbered}
 use Rattle.row_keys.specs.Slots.{contents_of, live}
 use Rattle.row_keys.specs.Store.{Store}
 use Rattle.upkeep.specs.Inputs.{side_by}
-use Rattle.upkeep.specs.Stores.{Rows, rows_at, rows_in, tables_in, world_of}
+use Rattle.upkeep.specs.Stores.{Rows, rows_at, tables_in, world_of}
 use Rattle.upkeep.specs.StoreLaws.{set_mapped, tables_length}
 use Rattle.row_keys.specs.HiddenChanges.{named_keys}
 use Rattle.upkeep.specs.Touched.{opened_for, refers}
@@ -76,7 +106,8 @@ current_before :
     (tables : List Table) (n : ℕ) (old new : Rows) (v : View) (s : ViewState) → 0 < n → DiffersAt n old new
     → looks_up v.lookup n ≡ false → IsCurrentWith tables new v s → IsCurrentWith tables old v s
 current_before tables n old new v s side differs apart current =
-    subst (λ (rows : NumberedRows). IsCurrent tables v (side_by tables old v) s rows) (sym (main_same n old new side differs))
+    subst (λ (rows : NumberedRows). IsCurrent tables v (side_by tables old v) s rows)
+    (sym (main_same n old new side differs))
     (subst (λ (a : Side). IsCurrent tables v a s (numbered (rows_at new 0)))
     (sym (sides_same tables v.lookup n old new differs apart)) current)
 
@@ -188,7 +219,8 @@ marked_current tables rows live v s looks current = λ fresh.
 
 marked_each :
     (tables : List Table) (n : ℕ) (rows : Rows) (live : NumberedRows) (views : List View) (states : List ViewState)
-    → Each (λ (v : View) (s : ViewState). looks_up v.lookup n ≡ false → IsCurrent tables v (side_by tables rows v) s live)
+    → Each
+    (λ (v : View) (s : ViewState). looks_up v.lookup n ≡ false → IsCurrent tables v (side_by tables rows v) s live)
     views states
     → EachIsCurrent tables rows live views (lookups_stale n views states)
 marked_each tables n rows live [] [] each = each
@@ -285,7 +317,8 @@ counted_below p q (r ∷ rs) h =
     let here = counted_one (p r) (q r) (h r) in
     omega (arith, one, two, rest, here)
 
-pub view_counted : (width : ℕ) (views : List View) (i : ℕ) (v : View) (n : ℕ) (keys : List Datum) (rows : List (List Datum))
+pub view_counted :
+    (width : ℕ) (views : List View) (i : ℕ) (v : View) (n : ℕ) (keys : List Datum) (rows : List (List Datum))
     → v ≡ get_or views i v → i < length views
     → count_by (opened_for width v n keys) rows ≤ count_by (refers width views n keys) rows
 view_counted width views i v n keys rows at below =
@@ -308,12 +341,6 @@ opened_all (suc place) (suc many) all few =
     let rest = opened_all place many all (omega (arith, few)) in omega (arith, rest)
 
 -- stores whose rows were opened
-
-pub moved : (P : List Table → Rows → Type 0) (stores now : List Store) → tables_in now ≡ tables_in stores
-    → rows_in now ≡ rows_in stores → P (tables_in stores) (rows_in stores) → P (tables_in now) (rows_in now)
-moved P stores now tables rows h =
-    subst (λ (rs : Rows). P (tables_in now) rs) (sym rows) (subst (λ (ts : List Table). P ts (rows_in stores)) (sym
-    tables) h)
 
 pub many_stores : (stores now : List Store) → tables_in now ≡ tables_in stores → length now ≡ length stores
 many_stores stores now tables = sym (tables_length now) ∙ ap length tables ∙ tables_length stores

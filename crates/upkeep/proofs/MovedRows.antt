@@ -1,5 +1,42 @@
 -- The rows of the main table by sub-groups, and what a view makes of them before and after a change of a side table.
-use Rattle.std.proofs.Common.{◌≡◌, ℕ, zero, suc, ◌<◌, ◌≤◌, ◌&&◌, ◌||◌, All, Bool, true, false, cond, not, List, [], ◌∷◌, ◌++◌, Err, Ok, Option, None, Result, Some, drop, get_or, length, take, refl, ap, ap₂, sym, subst, ◌∙◌, arith, true≢false}
+use Rattle.std.proofs.Common.{
+  ◌≡◌,
+  ℕ,
+  zero,
+  suc,
+  ◌<◌,
+  ◌≤◌,
+  ◌&&◌,
+  ◌||◌,
+  All,
+  Bool,
+  true,
+  false,
+  cond,
+  not,
+  List,
+  [],
+  ◌∷◌,
+  ◌++◌,
+  Err,
+  Ok,
+  Option,
+  None,
+  Result,
+  Some,
+  drop,
+  get_or,
+  length,
+  take,
+  refl,
+  ap,
+  ap₂,
+  sym,
+  subst,
+  ◌∙◌,
+  arith,
+  true≢false,
+}
 use Rattle.std.proofs.lemmas.List.{get_or_append_left}
 use Rattle.std.proofs.lemmas.List.Elements.{All-from_recursion, recursion_from_All}
 use Rattle.std.proofs.lemmas.Option.{none-some}
@@ -10,17 +47,14 @@ use Rattle.std.specs.Ordering.{is_eq}
 use Rattle.std.specs.Option.{option_and_then}
 use Rattle.std.specs.Prelude.{◌==◌, OnOk, is_some, nat_lt}
 use Rattle.std.proofs.lemmas.Bool.{ltb-true}
-use Rattle.values.specs.ColTypes.{IsSingle, layout_of}
-use Rattle.values.specs.Datum.{Datum, Items, items_of, list, structure}
+use Rattle.values.specs.ColTypes.{IsSingle}
+use Rattle.values.specs.Datum.{Datum, items_of}
 use Rattle.values.specs.Keys.{key_of}
-use Rattle.values.specs.Layouts.{Holds, HoldsEach}
+use Rattle.values.specs.Layouts.{HoldsEach}
 use Rattle.values.specs.Limits.{max_main_rows}
-use Rattle.values.specs.Logical.{NamedType, tree_of, trees_of}
+use Rattle.values.specs.Logical.{NamedType, trees_of}
 use Rattle.values.specs.Order.{datum_cmp}
-use Rattle.values.specs.Rose.{Rose, Roses, kids_of, node}
-use Rattle.values.specs.declared.col_type.ColType.{ColType}
-use Rattle.values.specs.declared.col_type.ColType.TheVariants as col
-use Rattle.values.specs.declared.layout.Layout.{Layout}
+use Rattle.values.specs.Rose.{Rose, kids_of}
 use Rattle.values.specs.declared.key.Key.{Key}
 use Rattle.view_lang.specs.Cells.{cell_at}
 use Rattle.view_lang.specs.Config.{Table, View}
@@ -51,13 +85,18 @@ use Rattle.group_state.specs.Tuples.{has_tuple, members, tuple_of}
 use Rattle.group_state.specs.declared.kept_columns.KeptColumn.{KeptColumn}
 use Rattle.group_state.proofs.KeyData.{cell-data, key-data}
 use Rattle.group_state.proofs.Members.{tuple_itself}
+use Rattle.row_keys.proofs.KeyCells.{held_key, keyless}
+use Rattle.row_keys.proofs.KeyFacts.{neither}
 use Rattle.row_keys.specs.NumberLaws.{RowsAreLive}
 use Rattle.row_keys.specs.Numbered.{numbered}
 use Rattle.row_keys.specs.Slots.{Slot, live}
+use Rattle.row_keys.specs.Store.{Store}
 use Rattle.sub_groups.specs.FilterParts.{is_main, passes_main}
 use Rattle.sub_groups.specs.SubGroups.{AreSubGroups, IsSubRow, OthersAreLeftOut, rows_but, sub_keys}
 use Rattle.sub_groups.specs.declared.sub_groups.SubGroups.{SubGroups}
-use Rattle.upkeep.specs.Moves.{AreGrouped, CanMove, projected_but}
+use Rattle.upkeep.specs.Inputs.{side_by}
+use Rattle.upkeep.specs.Moves.{AreGrouped, CanMove, CanTurnSubGroups, TurnsSubGroups, projected_but, out_at}
+use Rattle.upkeep.specs.Stores.{Rows}
 use Rattle.upkeep.specs.ViewStates.{
   AreLinks,
   IsMaterialized,
@@ -73,7 +112,9 @@ use Rattle.upkeep.specs.ViewStates.{
 use Rattle.upkeep.specs.declared.view_state.Materialized.{Materialized}
 use Rattle.upkeep.specs.declared.view_state.Materialized.TheVariants as kept
 use Rattle.upkeep.specs.declared.view_state.Links.TheVariants as links
-use Rattle.upkeep.proofs.ReferringRows.{keyless}
+use Rattle.upkeep.specs.declared.view_state.Turn.{Turn}
+use Rattle.upkeep.specs.declared.view_state.Turn.TheVariants as turn
+use Rattle.upkeep.proofs.StoreContents.{Hold, from_stores, to_stores}
 
 -- A looked-up cell that is none of some values
 
@@ -90,10 +131,6 @@ not_same c d is None e h =
     same_symm c d ∙ ap (same_key d) (sym (cell-data c is)) ∙ keyless d (key_in c) e
 not_same c d is (Some k) e h = sym (keyed_same c d is (ap is_some e)) ∙ h
 
-neither : (a b : Bool) → (a || b) ≡ false → (a ≡ false) × (b ≡ false)
-neither true b h = absurd (true≢false h)
-neither false b h = (refl, h)
-
 not_among : (c : Datum) (t : List Key) (ds : List Datum) → IsKeyCell c
     → begins_with_one ds (key_in c ∷ t) ≡ false → is_among c ds ≡ false
 unfolding is_among
@@ -103,26 +140,6 @@ not_among c t (d ∷ ds) is h =
     ap₂ (λ a b. a || b) (not_same c d is (key_of d) refl hs.0) (not_among c t ds is hs.1)
 
 -- Rows of the main table
-
-no_list : (t : ColType) (kids : Roses Layout) (es : Items) → IsSingle t → Holds (node (layout_of t) kids) (list es) → ⊥
-no_list (col.List o) kids es single held = single
-no_list col.Struct kids es single held = single
-no_list t kids es single held = held
-
-no_structure :
-    (t : ColType) (kids : Roses Layout) (es : Items) → IsSingle t → Holds (node (layout_of t) kids) (structure es) → ⊥
-no_structure (col.List o) kids es single held = single
-no_structure col.Struct kids es single held = single
-no_structure t kids es single held = held
-
-single_key :
-    (t : ColType) (kids : Roses Layout) (d : Datum) → IsSingle t → Holds (node (layout_of t) kids) d → IsKeyCell d
-single_key t kids (list es) single held = absurd (no_list t kids es single held)
-single_key t kids (structure es) single held = absurd (no_structure t kids es single held)
-single_key t kids d single held = refl
-
-held_key : (f : Rose NamedType) (d : Datum) → IsSingle (type_of f) → Holds (tree_of f) d → IsKeyCell d
-held_key (node f kids) d single held = single_key f.col_type _ d single held
 
 row_wide : (fs : List (Rose NamedType)) (row : List Datum) → HoldsEach (trees_of (kids_of fs)) (items_of row)
     → length row ≡ length fs
@@ -254,7 +271,8 @@ module _ (s : SubGroups) (rows : List (List Datum)) (kept : KeepsGroups s.groups
       → list_any (is_at (tuple_cmp t)) (keys_of s.groups.groups) ≡ true
   grouped_by t None e some =
       let none : members s.groups.keys t rows ≡ [] =
-      subst (λ (o : Option GroupCounts). KeepsAt s.groups.columns (members s.groups.keys t rows) o) e (kept.groups_are t) in
+      subst (λ (o : Option GroupCounts). KeepsAt s.groups.columns (members s.groups.keys t rows) o) e
+      (kept.groups_are t) in
       let short : length (members s.groups.keys t rows) ≡ 0 = ap length none in absurd (omega (arith, some, short))
   grouped_by t (Some g) e some = among_keys (is_at (tuple_cmp t)) s.groups.groups g e
 
@@ -328,7 +346,8 @@ pub made_of_groups : (v : View) (side : Side) (by : List ℕ) (outs : List Group
     (rows : List (List Datum)) → v.outputs ≡ groups by outs having
     → filter_map (projected_row v side) rows ≡ filter_map (kept_row v side) rows
 made_of_groups v side by outs having rows is =
-    subst (λ (os : Outputs). filter_map (λ row. projected_by os (kept_row v side row)) rows ≡ filter_map (kept_row v side) rows)
+    subst (λ (os : Outputs). filter_map (λ row. projected_by os (kept_row v side row)) rows
+    ≡ filter_map (kept_row v side) rows)
     (sym is) refl
 
 -- A view of groups whose sub-groups move
@@ -336,18 +355,33 @@ made_of_groups v side by outs having rows is =
 some_is : {X : Type 0} (x y : X) → Some x ≡ Some y → x ≡ y
 some_is x y h = cc h
 
-groups_in : (k : Materialized) (g : Ranked) (columns : List KeptColumn) → k ≡ kept.Groups g → columns_in k ≡ Some columns
+groups_in : (k : Materialized) (g : Ranked) (columns : List KeptColumn) → k ≡ kept.Groups g
+    → columns_in k ≡ Some columns
     → g.groups.columns ≡ columns
 groups_in k g columns is counted =
     some_is g.groups.columns columns (subst (λ (x : Materialized). columns_in x ≡ Some columns) is counted)
 
-module _ (values : ImageValues) (living : RowsAreLive) (left_out : OthersAreLeftOut) (tables : List Table) (v : View)
-    (s : SubGroups) (k : Materialized) (g : Ranked) (slots : List Slot) (is : k ≡ kept.Groups g)
-    (right : AreLinks tables v k (links.SubGroups s)) (view : IsView tables v)
-    (held : All (IsRow (table_at tables 0).columns) (live slots)) (few : length (live slots) ≤ max_main_rows)
-    (linked : KeepsLinks (links.SubGroups s) (image (sub_row_of v) (numbered slots))) where
+-- what is used of the lower crates' laws
+pub record Laws : Type 0 where
+  pub values : ImageValues
+  pub live : RowsAreLive
+  pub left_out : OthersAreLeftOut
+
+-- The view's groups are kept by sub-groups, which are those of these rows of the main table.
+pub record AreKeptBySubGroups
+    (tables : List Table) (v : View) (s : SubGroups) (k : Materialized) (g : Ranked) (slots : List Slot) :
+    Type 0 where
+  pub is : k ≡ kept.Groups g
+  pub right : AreLinks tables v k (links.SubGroups s)
+  pub view : IsView tables v
+  pub held : All (IsRow (table_at tables 0).columns) (live slots)
+  pub few : length (live slots) ≤ max_main_rows
+  pub linked : KeepsLinks (links.SubGroups s) (image (sub_row_of v) (numbered slots))
+
+module _ (laws : Laws) {tables : List Table} {v : View} {s : SubGroups} {k : Materialized} {g : Ranked}
+    {slots : List Slot} (given : AreKeptBySubGroups tables v s k g slots) where
   abbrev of_sub : AreSubGroups (width_in tables) v s
-  of_sub = right.0
+  of_sub = given.right.0
 
   abbrev sub_by : List ℕ
   sub_by = sub_keys (width_in tables) of_sub.look of_sub.by
@@ -356,17 +390,17 @@ module _ (values : ImageValues) (living : RowsAreLive) (left_out : OthersAreLeft
   linked_rows = values_of (image (sub_row_of v) (numbered slots))
 
   all_held : AllByRecursion (IsRow (table_at tables 0).columns) (live slots)
-  all_held = recursion_from_All (IsRow (table_at tables 0).columns) (live slots) held
+  all_held = recursion_from_All (IsRow (table_at tables 0).columns) (live slots) given.held
 
   linked_are : linked_rows ≡ filter_map (sub_row_of v) (live slots)
-  linked_are = values (sub_row_of v) (numbered slots) ∙ ap (filter_map (sub_row_of v)) (living slots)
+  linked_are = laws.values (sub_row_of v) (numbered slots) ∙ ap (filter_map (sub_row_of v)) (laws.live slots)
 
   ordered : AllByRecursion (IsOrdered (table_at tables 0).columns) sub_by
   ordered =
       sub_keys_ordered tables of_sub.look of_sub.by
-      (subst (λ (o : Option Lookup). IsLookup tables o) of_sub.can.lookup view.lookup)
+      (subst (λ (o : Option Lookup). IsLookup tables o) of_sub.can.lookup given.view.lookup)
       (subst (λ (o : Option Lookup). All (IsOrdered (joined_columns tables o)) of_sub.by) of_sub.can.lookup
-      (subst (λ (os : Outputs). AreOutputs (joined_columns tables v.lookup) os) of_sub.grouped view.outputs).0)
+      (subst (λ (os : Outputs). AreOutputs (joined_columns tables v.lookup) os) of_sub.grouped given.view.outputs).0)
 
   each_by : AllByRecursion (IsSubRow (width_in tables) v sub_by) linked_rows
   each_by =
@@ -377,27 +411,27 @@ module _ (values : ImageValues) (living : RowsAreLive) (left_out : OthersAreLeft
   grouped = record {
     each = subst (λ (ks : List ℕ). All (IsSubRow (width_in tables) v ks) linked_rows) (sym of_sub.keyed)
         (All-from_recursion (IsSubRow (width_in tables) v sub_by) linked_rows each_by);
-    kept = linked;
+    kept = given.linked;
     few =
         let short = subs_few v (live slots) in
-        let same = ap length linked_are in omega (arith, few, short, same);
+        let same = ap length linked_are in omega (arith, given.few, short, same);
   }
 
   pub can_move : (rows : NumberedRows) → IsMaterialized v k rows → CanMove tables v s g
   can_move rows kept_by = record {
     right = of_sub;
     keyed = (subst (λ (os : Outputs). IsMaterializedBy (ShowsEach v) (kept.Groups g) os v.order rows) of_sub.grouped
-        (subst (λ (x : Materialized). IsMaterialized v x rows) is kept_by)).0;
-    counted = groups_in k g s.groups.columns is right.1;
+        (subst (λ (x : Materialized). IsMaterialized v x rows) given.is kept_by)).0;
+    counted = groups_in k g s.groups.columns given.is given.right.1;
   }
 
   made_are : (side : Side) → values_of (image (projected_row v side) (numbered slots))
       ≡ projected_but v side s.groups.keys [] linked_rows
   made_are side =
-      values (projected_row v side) (numbered slots)
-      ∙ ap (filter_map (projected_row v side)) (living slots)
+      laws.values (projected_row v side) (numbered slots)
+      ∙ ap (filter_map (projected_row v side)) (laws.live slots)
       ∙ made_of_groups v side of_sub.by of_sub.outputs of_sub.having (live slots) of_sub.grouped
-      ∙ made_of_subs (table_at tables 0).columns v sub_by ordered left_out side (live slots) all_held
+      ∙ made_of_subs (table_at tables 0).columns v sub_by ordered laws.left_out side (live slots) all_held
       ∙ ap (filter_map (kept_row v side)) (sym linked_are)
       ∙ sym (ap (filter_map (kept_row v side)) (none_out s.groups.keys linked_rows))
 
@@ -405,18 +439,22 @@ module _ (values : ImageValues) (living : RowsAreLive) (left_out : OthersAreLeft
       → KeepsRanked g (projected_but v side s.groups.keys [] linked_rows)
   kept_of side kept_by =
       subst (KeepsRanked g) (made_are side)
-      (subst (λ (os : Outputs). IsMaterializedBy (ShowsEach v) (kept.Groups g) os v.order (image (projected_row v side) (numbered slots)))
+      (subst (λ (os : Outputs). IsMaterializedBy (ShowsEach v) (kept.Groups g) os v.order
+      (image (projected_row v side) (numbered slots)))
       of_sub.grouped
-      (subst (λ (x : Materialized). IsMaterialized v x (image (projected_row v side) (numbered slots))) is kept_by)).3
+      (subst (λ (x : Materialized). IsMaterialized v x (image (projected_row v side) (numbered slots))) given.is
+      kept_by)).3
 
-  pub kept_back : (h : Ranked) (side : Side) (rows : NumberedRows) → IsMaterialized v k rows → h.groups.keys ≡ g.groups.keys
+  pub kept_back : (h : Ranked) (side : Side) (rows : NumberedRows) → IsMaterialized v k rows
+      → h.groups.keys ≡ g.groups.keys
       → h.groups.columns ≡ g.groups.columns → h.ranking ≡ g.ranking
       → KeepsRanked h (projected_but v side s.groups.keys [] linked_rows)
       → IsMaterialized v (kept.Groups h) (image (projected_row v side) (numbered slots))
   kept_back h side rows kept_by keys columns ranking kept_now =
       let was = subst (λ (os : Outputs). IsMaterializedBy (ShowsEach v) (kept.Groups g) os v.order rows) of_sub.grouped
-      (subst (λ (x : Materialized). IsMaterialized v x rows) is kept_by) in
-      subst (λ (os : Outputs). IsMaterializedBy (ShowsEach v) (kept.Groups h) os v.order (image (projected_row v side) (numbered slots)))
+      (subst (λ (x : Materialized). IsMaterialized v x rows) given.is kept_by) in
+      subst (λ (os : Outputs). IsMaterializedBy (ShowsEach v) (kept.Groups h) os v.order
+      (image (projected_row v side) (numbered slots)))
       (sym of_sub.grouped) (
         keys ∙ was.0,
         subst (λ (cs : List KeptColumn). All (λ o. IsKeptColumn cs o.aggregate) of_sub.outputs) (sym columns) was.1,
@@ -434,8 +472,9 @@ module _ (values : ImageValues) (living : RowsAreLive) (left_out : OthersAreLeft
       let rest : List ℕ = filter (λ j. is_main (width_in tables) j && not (j == of_sub.look.on)) of_sub.by in
       let there = subst (λ (ks : List ℕ). AllByRecursion
       (λ row. list_any (is_at (tuple_cmp (tuple_of ks row))) (keys_of s.groups.groups) ≡ true) linked_rows)
-      of_sub.keyed (all_grouped s linked_rows linked) in
-      subst (λ (ks : List ℕ). projected_but v a ks ts linked_rows ≡ projected_but v b ks ts linked_rows) (sym of_sub.keyed)
+      of_sub.keyed (all_grouped s linked_rows given.linked) in
+      subst (λ (ks : List ℕ). projected_but v a ks ts linked_rows ≡ projected_but v b ks ts linked_rows)
+      (sym of_sub.keyed)
       (rest_alike v of_sub.look a b rest named ts (keys_of s.groups.groups) of_sub.can.lookup under same linked_rows
       (each_keyed linked_rows each_by) there)
     where
@@ -447,13 +486,47 @@ module _ (values : ImageValues) (living : RowsAreLive) (left_out : OthersAreLeft
         each_keyed rows all.1,
       )
 
-pub all_of : {X : Type 0} (xs : List X) → take (length xs) xs ≡ xs
+-- Sub-groups of these rows go from groups of what stores hold, or come to them.
+
+all_of : {X : Type 0} (xs : List X) → take (length xs) xs ≡ xs
 all_of [] = refl
 all_of (x ∷ xs) = ap (λ ys. x ∷ ys) (all_of xs)
 
-pub none_of : {X : Type 0} (xs : List X) → drop (length xs) xs ≡ []
+none_of : {X : Type 0} (xs : List X) → drop (length xs) xs ≡ []
 none_of [] = refl
 none_of (x ∷ xs) = none_of xs
+
+-- Groups keep what a view makes of these rows, but for those of the sub-groups that are out.
+abbrev pub KeepsOthers : List Table → Rows → View → SubGroups → List (List Datum) → Ranked → List (List Key) → Type 0
+KeepsOthers tables held v s rows g out = KeepsRanked g (projected_but v (side_by tables held v) s.groups.keys out rows)
+
+module _ {tables : List Table} {held : Rows} {stores : List Store} {v : View} {s : SubGroups}
+    {rows : List (List Datum)} (hold : Hold tables held stores) (grouped : AreGrouped tables v s rows) where
+  pub can_turn : (u : Turn) (ts : List (List Key)) (g : Ranked) → KeepsOthers tables held v s rows g (out_at u 0 ts)
+      → CanTurnSubGroups stores v s ts u g
+  can_turn u ts g keeps = (
+    rows,
+    to_stores hold (λ (tb : List Table) (rs : Rows). AreGrouped tb v s rows
+        × KeepsOthers tb rs v s rows g (out_at u 0 ts)) (grouped, keeps),
+  )
+
+  turned : (u : Turn) (ts : List (List Key)) (g h : Ranked) → TurnsSubGroups stores v s ts u g h
+      → KeepsOthers tables held v s rows g (out_at u 0 ts)
+      → KeepsOthers tables held v s rows h (out_at u (length ts) ts)
+  turned u ts g h turns =
+      from_stores hold (λ (tb : List Table) (rs : Rows). AreGrouped tb v s rows
+      → KeepsOthers tb rs v s rows g (out_at u 0 ts) → KeepsOthers tb rs v s rows h (out_at u (length ts) ts))
+      (turns rows) grouped
+
+  pub all_went : (ts : List (List Key)) (g h : Ranked) → TurnsSubGroups stores v s ts turn.Go g h
+      → KeepsOthers tables held v s rows g [] → KeepsOthers tables held v s rows h ts
+  all_went ts g h turns keeps =
+      subst (KeepsOthers tables held v s rows h) (all_of ts) (turned turn.Go ts g h turns keeps)
+
+  pub all_came : (ts : List (List Key)) (g h : Ranked) → TurnsSubGroups stores v s ts turn.Come g h
+      → KeepsOthers tables held v s rows g ts → KeepsOthers tables held v s rows h []
+  all_came ts g h turns keeps =
+      subst (KeepsOthers tables held v s rows h) (none_of ts) (turned turn.Come ts g h turns keeps)
 
 pub on_ok : {X E : Type 0} (A B C D P : Type 0) (r : Result X E) → (A → B → C → D → P) → OnOk r A → OnOk r B → OnOk r C
     → D → OnOk r P

@@ -1,5 +1,37 @@
 -- The rows that refer to keys, and a view of them where those keys' rows change.
-use Rattle.std.proofs.Common.{◌≡◌, ℕ, zero, suc, ◌+◌, ◌<◌, ◌≤◌, ◌||◌, ◌&&◌, All, Bool, true, false, cond, List, [], ◌∷◌, Option, None, Some, count_by, get_or, length, map, refl, ap, sym, subst, ◌∙◌, arith, true≢false}
+use Rattle.std.proofs.Common.{
+  ◌≡◌,
+  ℕ,
+  zero,
+  suc,
+  ◌+◌,
+  ◌<◌,
+  ◌≤◌,
+  ◌||◌,
+  ◌&&◌,
+  All,
+  Bool,
+  true,
+  false,
+  cond,
+  List,
+  [],
+  ◌∷◌,
+  Option,
+  None,
+  Some,
+  count_by,
+  get_or,
+  length,
+  map,
+  refl,
+  ap,
+  sym,
+  subst,
+  ◌∙◌,
+  arith,
+  true≢false,
+}
 use Rattle.std.specs.BTreeMap.{is_at}
 use Rattle.std.specs.List.{list_any}
 use Rattle.std.specs.List.Sorted.{IsStrictlySortedBy}
@@ -10,11 +42,10 @@ use Rattle.std.specs.Cmp.{nat_cmp_total, tied_itself}
 use Rattle.std.specs.Prelude.{if◌then◌else◌, nat_eq, slice_index_or}
 use Rattle.std.proofs.lemmas.List.Elements.{All-cons, All-head, All-nil, All-tail}
 use Rattle.std.proofs.lemmas.List.Sums.{sum_by-cons}
-use Rattle.values.specs.Datum.{Datum, null, truth, whole, text, bytes, list, structure}
+use Rattle.values.specs.Datum.{Datum}
 use Rattle.values.specs.KeyOrder.{KeysStandInOrder}
 use Rattle.values.specs.Keys.{datum_of_key, key_of}
 use Rattle.values.specs.declared.key.Key.{Key}
-use Rattle.values.specs.declared.key.Key.TheVariants as key
 use Rattle.view_lang.specs.Cells.{cell_at}
 use Rattle.view_lang.specs.Config.{View}
 use Rattle.view_lang.specs.Contents.{is_among, same_key}
@@ -28,40 +59,16 @@ use Rattle.lookups.specs.Refers.{RowsByKey, is_among as is_numbered, refers as r
 use Rattle.row_keys.specs.NumberLaws.{LiveCanGo, NumbersAscend, RowsAreAtNumbers}
 use Rattle.row_keys.specs.Numbered.{live_at, numbered}
 use Rattle.row_keys.specs.Slots.{CanRetract, IsThere, Slot, live, marked, no_slot, row_of, slot}
+use Rattle.row_keys.proofs.KeyCells.{keyless}
+use Rattle.row_keys.proofs.KeyFacts.{key_datum}
 use Rattle.upkeep.specs.Touched.{refers_by}
 use Rattle.upkeep.specs.ViewStates.{looks_up, projected_by, projected_row, referring_by, referring_row}
 use Rattle.upkeep.proofs.SwappedRows.{row_marked}
 
--- keys as values
-
 some_is : {X : Type 0} (x y : X) → Some x ≡ Some y → x ≡ y
 some_is x y h = cc h
 
-pub key_datum : (d : Datum) (k : Key) → key_of d ≡ Some k → datum_of_key k ≡ d
-key_datum null k h = subst (λ x. datum_of_key x ≡ null) (some_is key.Null k h) refl
-key_datum (truth b) k h = subst (λ x. datum_of_key x ≡ truth b) (some_is (key.Bool b) k h) refl
-key_datum (whole n) k h = subst (λ x. datum_of_key x ≡ whole n) (some_is (key.Int n) k h) refl
-key_datum (text s) k h = subst (λ x. datum_of_key x ≡ text s) (some_is (key.Utf8 s) k h) refl
-key_datum (bytes b) k h = subst (λ x. datum_of_key x ≡ bytes b) (some_is (key.Binary b) k h) refl
-key_datum (list es) k h = absurd (none-some k h)
-key_datum (structure es) k h = absurd (none-some k h)
-
-pub keyless : (d : Datum) (k : Key) → key_of d ≡ None → same_key d (datum_of_key k) ≡ false
-keyless null k h = absurd (none-some key.Null (sym h))
-keyless (truth b) k h = absurd (none-some (key.Bool b) (sym h))
-keyless (whole n) k h = absurd (none-some (key.Int n) (sym h))
-keyless (text s) k h = absurd (none-some (key.Utf8 s) (sym h))
-keyless (bytes b) k h = absurd (none-some (key.Binary b) (sym h))
-keyless (list es) (key.Bool b) h = refl
-keyless (list es) (key.Int n) h = refl
-keyless (list es) (key.Utf8 s) h = refl
-keyless (list es) (key.Binary b) h = refl
-keyless (list es) key.Null h = refl
-keyless (structure es) (key.Bool b) h = refl
-keyless (structure es) (key.Int n) h = refl
-keyless (structure es) (key.Utf8 s) h = refl
-keyless (structure es) (key.Binary b) h = refl
-keyless (structure es) key.Null h = refl
+-- keys as values
 
 pub is_key_same : KeysStandInOrder → (d : Datum) (k : Key) (o : Option Key) → key_of d ≡ o
     → is_key k o ≡ same_key d (datum_of_key k)

@@ -59,6 +59,8 @@ use Rattle.lookups.proofs.Exactness.{key_total}
 use Rattle.lookups.specs.Refers.{key_cmp}
 use Rattle.row_keys.specs.Slots.{Slot, contents_of, row_of}
 use Rattle.row_keys.specs.Store.{Store}
+use Rattle.row_keys.proofs.KeyCells.{keyless}
+use Rattle.row_keys.proofs.KeyFacts.{key_datum}
 use Rattle.upkeep.specs.Inputs.{side_by}
 use Rattle.upkeep.specs.SideRows.{AreOfKeys, RowsByKey, kept_with, known_at, row_in, side_of_rows}
 use Rattle.upkeep.specs.StoreLaws.{rows_length, rows_there, table_there}
@@ -69,7 +71,7 @@ use Rattle.upkeep.specs.ViewStates.{projected_by, projected_row, reprojected_by,
 use Rattle.row_keys.specs.declared.table_change.TableChange.{TableChange}
 use Rattle.upkeep.specs.declared.view_state.Turn.{Turn}
 use Rattle.upkeep.proofs.FollowedLookups.{world_here, world_placed}
-use Rattle.upkeep.proofs.ReferringRows.{is_key_same, key_datum, keyless, made_alike}
+use Rattle.upkeep.proofs.ReferringRows.{is_key_same, made_alike}
 use Rattle.upkeep.proofs.SwappedStores.{kept_store}
 
 -- Under one key more stands its row.

@@ -1,4 +1,4 @@
-use Rattle.std.proofs.Common.{◌≡◌, ◌≤◌, ◌+◌, List, ap, arith, length, map, subst, sym, ◌∙◌}
+use Rattle.std.proofs.Common.{◌≡◌, ◌+◌, List, ap, arith, length, map, subst, sym, ◌∙◌}
 use Rattle.std.specs.Prelude.{slice_set}
 use Rattle.std.proofs.lemmas.List.{length-set}
 use Rattle.values.specs.Keys.{datum_of_key}
@@ -6,12 +6,11 @@ use Rattle.view_lang.specs.Config.{Table}
 use Rattle.view_lang.specs.ConfigRules.{IsView}
 use Rattle.view_lang.specs.World.{table_at}
 use Rattle.row_keys.specs.Numbered.{numbered}
-use Rattle.row_keys.specs.Slots.{live}
-use Rattle.upkeep.specs.Stores.{Rows, rows_at, rows_in, tables_in, visits_in}
+use Rattle.upkeep.specs.Stores.{Rows, rows_at, rows_in, tables_in}
 use Rattle.upkeep.specs.StoreLaws.{set_same}
 use Rattle.upkeep.specs.Swaps.{CanSwap}
-use Rattle.upkeep.specs.Touched.{opened_for, refers}
-use Rattle.upkeep.specs.ViewStates.{AreCurrent, IsBefore, IsCurrentWith, stale_in, width_in}
+use Rattle.upkeep.specs.Touched.{count_referring}
+use Rattle.upkeep.specs.ViewStates.{AreCurrent, stale_in}
 use Rattle.upkeep.specs.declared.view_state.ViewState.{ViewState}
 use Rattle.upkeep.proofs.ChangedStores.{still_same, view_there}
 use Rattle.upkeep.proofs.FollowedViews.{current_alike}
@@ -20,129 +19,94 @@ use Rattle.upkeep.proofs.LookedUpViews.{
   lookups_length,
   many_stores,
   marked_following,
-  more_following,
-  moved,
   named_at,
-  next_following,
   opened_all,
-  opened_more,
-  referring_at,
   stale_set,
-  view_counted,
 }
+use Rattle.upkeep.proofs.NextViews.{IsNext, before_next, current_next, more_next, opened_next}
+use Rattle.upkeep.proofs.StoreContents.{hold_same, to_stores}
 use Rattle.upkeep.proofs.lookup_views.follow_lookups_of.Goals as goal
+use Rattle.upkeep.proofs.lookup_views.follow_lookups_of.Goals.{After-index_mut, Start}
+
+-- The states are as many as the views.
+alike : (c : Start) → length c.args.states.now.items ≡ length c.args.views.now
+alike c =
+    current_alike (tables_in c.args.stores.now.items) c.requires.current.0
+    (numbered (rows_at c.requires.current.0 0)) c.args.views.now c.args.states.now.items c.requires.current.2
+
+next : (c : After-index_mut)
+    → IsNext c.args.views.now c.loop-place.states.items c.loop-place.place c.index-views-place.result
+    c.index_mut.result.now
+next c = record {
+  below = c.loop-place-test.true;
+  view = c.index-views-place.is;
+  state = c.index_mut.ensures.value;
+}
 
 pub index_mut-requires : goal.index_mut-requires
 index_mut-requires c =
-    let alike = current_alike (tables_in c.args.stores.now.items) c.requires.current.0
-    (numbered (rows_at c.requires.current.0 0)) c.args.views.now c.args.states.now.items c.requires.current.2 in
+    let same = alike (goal.at.index_mut-requires c).Start in
     let many = c.loop-place.invariant.many in
     let below = c.loop-place-test.true in
-    omega (arith, alike, many, below)
+    omega (arith, same, many, below)
 
 pub mark_lookups_stale-requires : goal.mark_lookups_stale-requires
 mark_lookups_stale-requires c = record {
   alike =
-      length-set c.loop-place.states.items c.loop-place.place c.follow_lookup.new.state ∙ c.loop-place.invariant.many
-      ∙ current_alike (tables_in c.args.stores.now.items) c.requires.current.0
-      (numbered (rows_at c.requires.current.0 0)) c.args.views.now c.args.states.now.items c.requires.current.2;
+      length-set c.loop-place.states.items c.loop-place.place c.follow_lookup.new.state
+      ∙ c.loop-place.invariant.many ∙ alike (goal.at.mark_lookups_stale-requires c).Start;
 }
 
-pub follow_lookup-requires-clause-view : goal.follow_lookup-requires-clause-view
-follow_lookup-requires-clause-view c =
-    moved (λ (ts : List Table) (rs : Rows). IsView ts c.index-views-place.result) c.args.stores.now.items
-    c.loop-place.stores.items c.loop-place.invariant.same_rows.tables c.loop-place.invariant.same_rows.rows
-    (view_there c.args.stores.now.items c.args.views.now c.loop-place.place c.index-views-place.result c.requires.of
-    c.loop-place-test.true c.index-views-place.is)
-
-pub follow_lookup-requires-clause-main : goal.follow_lookup-requires-clause-main
-follow_lookup-requires-clause-main c =
-    let many = many_stores c.args.stores.now.items c.loop-place.stores.items c.loop-place.invariant.same_rows.tables in
+pub follow_lookup-requires : goal.follow_lookup-requires
+follow_lookup-requires c =
+    let next = next (goal.at.follow_lookup-requires c).After-index_mut in
+    let same = c.loop-place.invariant.same_rows in
+    let many = many_stores c.args.stores.now.items c.loop-place.stores.items same.tables in
     let main = c.requires.of.main in
-    omega (arith, many, main)
-
-pub follow_lookup-requires-clause-there : goal.follow_lookup-requires-clause-there
-follow_lookup-requires-clause-there c =
-    let many = many_stores c.args.stores.now.items c.loop-place.stores.items c.loop-place.invariant.same_rows.tables in
     let there = c.requires.there in
-    omega (arith, many, there)
-
-pub follow_lookup-requires-clause-swaps : goal.follow_lookup-requires-clause-swaps
-follow_lookup-requires-clause-swaps c =
-    moved (λ (ts : List Table) (rs : Rows). CanSwap c.args.turn (table_at ts c.args.table) c.args.change.now
-    (rows_at rs c.args.table)) c.args.stores.now.items c.loop-place.stores.items c.loop-place.invariant.same_rows.tables
-    c.loop-place.invariant.same_rows.rows c.requires.swaps
-
-pub follow_lookup-requires-clause-keys : goal.follow_lookup-requires-clause-keys
-follow_lookup-requires-clause-keys c =
-    moved (λ (ts : List Table) (rs : Rows). map datum_of_key c.args.keys.now
-    ≡ named_at c.args.table c.args.change.now ts rs) c.args.stores.now.items c.loop-place.stores.items
-    c.loop-place.invariant.same_rows.tables c.loop-place.invariant.same_rows.rows c.requires.keys
-
-pub follow_lookup-requires-clause-current : goal.follow_lookup-requires-clause-current
-follow_lookup-requires-clause-current c =
-    let given = c.requires.current in (
-      given.0,
-      moved (λ (ts : List Table) (rs : Rows). IsBefore c.args.table c.args.turn c.args.change.now given.0 rs)
-          c.args.stores.now.items c.loop-place.stores.items c.loop-place.invariant.same_rows.tables c.loop-place.invariant.same_rows.rows
-          given.1,
-      moved (λ (ts : List Table) (rs : Rows). IsCurrentWith ts given.0 c.index-views-place.result
-          c.index_mut.result.now)
-          c.args.stores.now.items c.loop-place.stores.items c.loop-place.invariant.same_rows.tables c.loop-place.invariant.same_rows.rows
-          (next_following (tables_in c.args.stores.now.items) given.0 (rows_in c.args.stores.now.items)
-          c.loop-place.place c.args.views.now c.loop-place.states.items c.index-views-place.result
-          c.index_mut.result.now c.loop-place-test.true c.index-views-place.is c.index_mut.ensures.value
-          (c.loop-place.invariant.following given.0 given.1 given.2)),
-    )
+    let given = c.requires.current in
+    let following = c.loop-place.invariant.following given.0 given.1 given.2 in
+    record {
+      view =
+          to_stores (hold_same same) (λ (ts : List Table) (rs : Rows). IsView ts c.index-views-place.result)
+          (view_there c.args.stores.now.items c.args.views.now c.loop-place.place c.index-views-place.result
+          c.requires.of c.loop-place-test.true c.index-views-place.is);
+      main = omega (arith, many, main);
+      side = c.requires.side;
+      there = omega (arith, many, there);
+      swaps =
+          to_stores (hold_same same) (λ (ts : List Table) (rs : Rows). CanSwap c.args.turn (table_at ts c.args.table)
+          c.args.change.now (rows_at rs c.args.table)) c.requires.swaps;
+      keys =
+          to_stores (hold_same same) (λ (ts : List Table) (rs : Rows). map datum_of_key c.args.keys.now
+          ≡ named_at c.args.table c.args.change.now ts rs) c.requires.keys;
+      current = (
+        given.0,
+        before_next same next c.args.table c.args.change.now c.args.turn given.0 given.1 following,
+        current_next same next c.args.table c.args.change.now c.args.turn given.0 given.1 following,
+      );
+    }
 
 pub loop-place-preserved : goal.loop-place-preserved
-loop-place-preserved c = record {
-  following = λ old before current.
-      let so_far = c.loop-place.invariant.following old before current in
-      let was = next_following (tables_in c.args.stores.now.items) old (rows_in c.args.stores.now.items)
-      c.loop-place.place c.args.views.now c.loop-place.states.items c.index-views-place.result c.index_mut.result.now
-      c.loop-place-test.true c.index-views-place.is c.index_mut.ensures.value so_far in
-      more_following (tables_in c.args.stores.now.items) old (rows_in c.args.stores.now.items) c.loop-place.place
-      c.args.views.now c.loop-place.states.items c.index-views-place.result c.follow_lookup.new.state
-      c.loop-place-test.true c.index-views-place.is
-      (moved (λ (ts : List Table) (rs : Rows). IsCurrentWith ts rs c.index-views-place.result
-      c.follow_lookup.new.state)
-      c.loop-place.stores.items c.args.stores.now.items (sym c.loop-place.invariant.same_rows.tables)
-      (sym c.loop-place.invariant.same_rows.rows)
-      (c.in_default.ensures.kept old
-      (moved (λ (ts : List Table) (rs : Rows). IsBefore c.args.table c.args.turn c.args.change.now old rs)
-      c.args.stores.now.items c.loop-place.stores.items c.loop-place.invariant.same_rows.tables c.loop-place.invariant.same_rows.rows
-      before)
-      (moved (λ (ts : List Table) (rs : Rows). IsCurrentWith ts old c.index-views-place.result c.index_mut.result.now)
-      c.args.stores.now.items c.loop-place.stores.items c.loop-place.invariant.same_rows.tables c.loop-place.invariant.same_rows.rows
-      was)))
-      so_far;
-  stale =
-      set_same (λ (s : ViewState). s.stale) c.loop-place.states.items c.loop-place.place c.index_mut.result.now
-      c.follow_lookup.new.state c.index_mut.ensures.value c.in_default.ensures.stale
-      ∙ c.loop-place.invariant.stale;
-  many =
-      length-set c.loop-place.states.items c.loop-place.place c.follow_lookup.new.state
-      ∙ c.loop-place.invariant.many;
-  same_rows = still_same c.loop-place.invariant.same_rows c.follow_lookup.ensures.same_rows;
-  visits =
-      opened_more (visits_in c.args.stores.now.items) (visits_in c.loop-place.stores.items)
-      (visits_in c.follow_lookup.new.stores.items) c.loop-place.place
-      (referring_at (opened_for (width_in (tables_in c.args.stores.now.items)) c.index-views-place.result c.args.table) c.args.table c.args.change.now
-      (tables_in c.args.stores.now.items) (rows_in c.args.stores.now.items))
-      (referring_at (refers (width_in (tables_in c.args.stores.now.items)) c.args.views.now c.args.table) c.args.table c.args.change.now
-      (tables_in c.args.stores.now.items) (rows_in c.args.stores.now.items))
-      c.loop-place.invariant.visits
-      (moved (λ (ts : List Table) (rs : Rows). visits_in c.follow_lookup.new.stores.items
-      ≤ visits_in c.loop-place.stores.items
-      + referring_at (opened_for (width_in ts) c.index-views-place.result c.args.table) c.args.table c.args.change.now ts
-      rs)
-      c.loop-place.stores.items c.args.stores.now.items (sym c.loop-place.invariant.same_rows.tables)
-      (sym c.loop-place.invariant.same_rows.rows) c.follow_lookup.ensures.visits)
-      (view_counted (width_in (tables_in c.args.stores.now.items)) c.args.views.now c.loop-place.place c.index-views-place.result c.args.table
-      (named_at c.args.table c.args.change.now (tables_in c.args.stores.now.items) (rows_in c.args.stores.now.items))
-      (live (rows_at (rows_in c.args.stores.now.items) 0)) c.index-views-place.is c.loop-place-test.true);
-}
+loop-place-preserved c =
+    let next = next (goal.at.loop-place-preserved c).After-index_mut in
+    let same = c.loop-place.invariant.same_rows in
+    record {
+      following = λ old before current.
+          more_next same next c.args.table c.args.change.now c.args.turn old before
+          (c.loop-place.invariant.following old before current) c.follow_lookup.new.state c.in_default.ensures.kept;
+      stale =
+          set_same (λ (s : ViewState). s.stale) c.loop-place.states.items c.loop-place.place c.index_mut.result.now
+          c.follow_lookup.new.state c.index_mut.ensures.value c.in_default.ensures.stale
+          ∙ c.loop-place.invariant.stale;
+      many =
+          length-set c.loop-place.states.items c.loop-place.place c.follow_lookup.new.state
+          ∙ c.loop-place.invariant.many;
+      same_rows = still_same same c.follow_lookup.ensures.same_rows;
+      visits =
+          opened_next same next c.args.table c.args.change.now c.follow_lookup.new.stores.items
+          c.loop-place.invariant.visits c.follow_lookup.ensures.visits;
+    }
 
 pub returns-clause-kept : goal.returns-clause-kept
 returns-clause-kept c = λ old before current.
@@ -178,21 +142,11 @@ returns-in-Err-clause-many c =
 
 pub returns-in-Err-clause-visits : goal.returns-in-Err-clause-visits
 returns-in-Err-clause-visits c =
-    let all = referring_at (refers (width_in (tables_in c.args.stores.now.items)) c.args.views.now c.args.table) c.args.table c.args.change.now
-    (tables_in c.args.stores.now.items) (rows_in c.args.stores.now.items) in
-    let more = opened_more (visits_in c.args.stores.now.items) (visits_in c.loop-place.stores.items)
-    (visits_in c.follow_lookup.new.stores.items) c.loop-place.place
-    (referring_at (opened_for (width_in (tables_in c.args.stores.now.items)) c.index-views-place.result c.args.table) c.args.table c.args.change.now
-    (tables_in c.args.stores.now.items) (rows_in c.args.stores.now.items))
-    all c.loop-place.invariant.visits
-    (moved (λ (ts : List Table) (rs : Rows). visits_in c.follow_lookup.new.stores.items
-    ≤ visits_in c.loop-place.stores.items
-    + referring_at (opened_for (width_in ts) c.index-views-place.result c.args.table) c.args.table c.args.change.now ts rs)
-    c.loop-place.stores.items c.args.stores.now.items (sym c.loop-place.invariant.same_rows.tables)
-    (sym c.loop-place.invariant.same_rows.rows) c.follow_lookup.ensures.visits)
-    (view_counted (width_in (tables_in c.args.stores.now.items)) c.args.views.now c.loop-place.place c.index-views-place.result c.args.table
-    (named_at c.args.table c.args.change.now (tables_in c.args.stores.now.items) (rows_in c.args.stores.now.items))
-    (live (rows_at (rows_in c.args.stores.now.items) 0)) c.index-views-place.is c.loop-place-test.true) in
+    let opened = opened_next c.loop-place.invariant.same_rows
+    (next (goal.at.returns-in-Err-clause-visits c).After-index_mut) c.args.table c.args.change.now
+    c.follow_lookup.new.stores.items c.loop-place.invariant.visits c.follow_lookup.ensures.visits in
     let below = c.loop-place-test.true in
-    let few = opened_all (c.loop-place.place + 1) (length c.args.views.now) all (omega (arith, below)) in
-    omega (arith, more, few)
+    let few = opened_all (c.loop-place.place + 1) (length c.args.views.now)
+    (count_referring c.args.stores.now.items c.args.views.now c.args.table c.args.change.now)
+    (omega (arith, below)) in
+    omega (arith, opened, few)
