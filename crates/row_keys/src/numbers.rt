@@ -76,7 +76,7 @@ const GONE: Entry = Entry {
     is_new: false,
 };
 
-/// So many keys that no row has are always kept.
+/// Up to this many keys that no row has are kept before the keys are written anew.
 const FEW_KEYS: usize = 32;
 
 /// How many rows there can be at most.

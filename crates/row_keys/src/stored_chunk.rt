@@ -45,11 +45,11 @@ const FEW_ROWS: usize = 16;
 pub struct StoredChunk {
     /// The least number that a row of the chunk may have.
     pub first: usize,
-    /// How many numbers from that on are the chunk's. A row has none where one of them isn't kept.
+    /// The chunk has the numbers from `first` to before `first + span`. One whose row isn't kept has no row.
     pub span: usize,
     /// The numbers of the rows; none where they follow one another from the first on.
     pub numbers: Vec<usize>,
-    /// A row more may lie in the columns than there are flags: those that were taken back.
+    /// The columns may hold more rows than there are flags: the others were taken back.
     pub batch: Batch,
     /// The flags of a few rows lie in the chunk itself.
     pub gone: SmallVec<bool, FEW_ROWS>,

@@ -16,10 +16,10 @@ use body_writer::{MAX_LIGHT_ROW, RowRange};
 use values::limits::MAX_CELL_WEIGHT;
 use values::{Layout, LayoutTree, slot};
 
-/// Where a range has no less than one row in so many of its batch, the bound of a whole column is taken.
+/// Where a range has at least one in this many of its batch's rows, the bound of the whole column is used.
 const SPARSE: usize = 8;
 
-/// What bytes of a fixed width weigh less than the same ones of any.
+/// How much less a value of a fixed width weighs than the same bytes with an offset.
 const OFFSET_WEIGHT: u64 = 4;
 
 /// The weight of the heaviest cell from cell `from` up to, and without, cell `to`.
@@ -34,8 +34,8 @@ fn weigh_cells(column: &Column, from: usize, to: usize) -> u64
     most
 }
 
-/// A weight that none of these cells is above; the limit of a cell plus 1 where nothing is known. It goes through no
-/// more than some times as many cells.
+/// A weight that none of these cells is above; the limit of a cell plus 1 where nothing is known. It reads at most a
+/// constant factor more cells than these.
 fn bound_cells(column: &Column, from: usize, to: usize) -> u64
     requires { to ≤ length column.now.cells }
     ensures { IsHeaviest column.now from to result }
