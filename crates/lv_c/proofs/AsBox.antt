@@ -1,6 +1,6 @@
 -- A loose box and a full slot own what the box owns.
 use mir.Syntax.{impl, tnil, dnil}
-use denote.Signature.{HandleContent, plain}
+use denote.Signature.{Slot, plain}
 use Rattle.std_alloc.proofs.BoxSteps.Form.{Bx}
 use Rattle.std_heap.specs.contracts.Global as Heap
 use Rattle.std_heap.specs.contracts.GlobalAllocator.TheImpl.{ghosts, dict}
@@ -25,8 +25,8 @@ E = record {
   };
 }
 
-abbrev pub FromLoose : HandleContent 0
+abbrev pub FromLoose : Slot 0
 FromLoose = plain (λ _. Loose.the_row Held.the_row Heap.the_row ghosts)
 
-abbrev pub FromSlot : HandleContent 0
+abbrev pub FromSlot : Slot 0
 FromSlot = plain (λ _. Full.the_row)

@@ -16,7 +16,7 @@ use Rattle.session.specs.declared.calls.Fault.{Fault}
 use Rattle.session.specs.declared.calls.Pushed.{Pushed}
 use Rattle.session.specs.declared.calls.ViewFault.{ViewFault}
 use Rattle.liveviews.specs.Recast.{Recasts}
-use Rattle.liveviews.specs.Steps.{IsTaken}
+use Rattle.liveviews.specs.Steps.{IsConsumed}
 use Rattle.liveviews.specs.declared.recasting.whole.RecastFault.{RecastFault}
 use Rattle.lv_c.specs.declared.answers.LvPushed.{LvPushed}
 use Rattle.lv_c.specs.declared.answers.LvWritten.{LvWritten}
@@ -92,7 +92,7 @@ pub record RecastCall (input old : List ℕ) (result : LvWritten) (new : List �
   pub kept : List ℕ
   pub failures : ℕ
   pub recasts : Recasts (sunk_of [] 0) (sunk_of kept failures) answer (story_of input)
-  pub accepted : OnOk answer (IsTaken (story_of input))
+  pub accepted : OnOk answer (IsConsumed (story_of input))
   pub told : result ≡ recast_answer answer
   pub buffer : CopiesIf answer kept old new
 
