@@ -44,7 +44,7 @@ from records import RECORD, all_of, none_of, part_of, plan, turn_of
 
 ROOT = os.path.abspath(f"{__file__}/../../..")
 PROGRAM, LIBRARY = "lv", "lv_c"
-# On two cores the gate takes 90 minutes.
+# The minute after which no edit is begun: on two cores the gate is to end within 90.
 UNTIL = 80
 # How many seconds a crate's tests may take with run-time checks; and the tests that take longer so than with their proof.
 SECONDS_OF_TESTS = 300

@@ -76,7 +76,7 @@ const GONE: Entry = Entry {
     is_new: false,
 };
 
-/// Up to this many keys that no row has are kept before the keys are written anew.
+/// The keys are written anew no sooner than this many of them are of no row.
 const FEW_KEYS: usize = 32;
 
 /// How many rows there can be at most.
