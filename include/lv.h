@@ -67,7 +67,7 @@ enum lv_cause {
     LV_CAUSE_BIG_ENDIAN = 10,
     /* a column has a type that isn't read */
     LV_CAUSE_UNSUPPORTED_TYPE = 11,
-    /* a type's table is absent, or a parameter, the children or the slot of a type are out of range */
+    /* a type's table is absent, or its parameter, its children or the weight of its null are out of range */
     LV_CAUSE_BAD_TYPE = 12,
     /* there are more than 1,024 fields at all levels, or a field is deeper than 16 */
     LV_CAUSE_TOO_MANY_FIELDS = 13,
@@ -137,14 +137,16 @@ enum lv_cause {
     LV_CAUSE_DUPLICATE_COLUMN = 63,
     /* what is written for a type is none, or has a parameter out of its range */
     LV_CAUSE_TYPE_TEXT = 64,
-    /* a constant isn't of its column's type, or two columns that are compared have different types */
+    /* a constant isn't of its column's type or is out of its range, or two columns that are compared, or `on` of a
+     * lookup and the side table's key, have different types */
     LV_CAUSE_CONSTANT_TYPE = 65,
     /* a sum is of other values than integers or decimals of at most 28 digits */
     LV_CAUSE_SUM_TYPE = 66,
-    /* a list or a struct stands where values must have an order: as a key, in a comparison, a group or an order, or
-     * under `least` or `greatest` */
+    /* a list or a struct stands where values must have an order: as a key, as `on` of a lookup, in a comparison, a
+     * group or an order, or under `distinct`, `least` or `greatest` */
     LV_CAUSE_ORDER_TYPE = 67,
-    /* a count, a depth, a slot, the length of a name or how many rows a view has is out of its limits */
+    /* a count, a depth, the weight of a type's null, the length of a name or how many rows a view has is out of its
+     * limits */
     LV_CAUSE_OVER_LIMIT = 68,
     /* an entry is missing or unknown, or a value isn't of the form that its place wants */
     LV_CAUSE_SHAPE = 69,

@@ -47,7 +47,7 @@ CAUSES: dict[int, tuple[str, str]] = {
     ),
     12: (
         "BadType",
-        "a type's table is absent, or a parameter, the children or the slot of a type are out of range",
+        "a type's table is absent, or its parameter, its children or the weight of its null are out of range",
     ),
     13: (
         "TooManyFields",
@@ -183,7 +183,7 @@ CAUSES: dict[int, tuple[str, str]] = {
     ),
     65: (
         "ConstantType",
-        "a constant isn't of its column's type, or two columns that are compared have different types",
+        "a constant isn't of its column's type or is out of its range, or two columns that are compared, or `on` of a lookup and the side table's key, have different types",
     ),
     66: (
         "SumType",
@@ -191,11 +191,11 @@ CAUSES: dict[int, tuple[str, str]] = {
     ),
     67: (
         "OrderType",
-        "a list or a struct stands where values must have an order: as a key, in a comparison, a group or an order, or under `least` or `greatest`",
+        "a list or a struct stands where values must have an order: as a key, as `on` of a lookup, in a comparison, a group or an order, or under `distinct`, `least` or `greatest`",
     ),
     68: (
         "OverLimit",
-        "a count, a depth, a slot, the length of a name or how many rows a view has is out of its limits",
+        "a count, a depth, the weight of a type's null, the length of a name or how many rows a view has is out of its limits",
     ),
     69: (
         "Shape",

@@ -1,7 +1,7 @@
 -- An array is sound where its own buffers are, and its children's.
 use Rattle.std.proofs.Common.{◌≡◌, ℕ, List, ◌+◌, ◌*◌, ◌<◌, ◌≤◌, length, drop, get_or, subst, sym}
 use Rattle.values.specs.declared.faults.StreamFault.{StreamFault}
-use Rattle.values.specs.Reading.{Reading, second, Stands, IsValid, Decides}
+use Rattle.values.specs.Reading.{Reading, second, FailsWith, IsValid, Decides}
 use Rattle.values.proofs.Readings.{decides_self, decides_both, decides_both_fault}
 use Rattle.values.specs.Rose.{Rose, node, Roses, none, more, kids_of}
 use Rattle.values.proofs.Roses.{kids_step, kids_end, kid_within}
@@ -53,7 +53,7 @@ below_step b ts k e d w is below valid left =
 pub below_fault :
     {W : Type 0} (b : List ℕ) (ts : List (Rose ArrayData)) (k : ℕ) (e d : Rose ArrayData) (w : Reading W)
     (c : StreamFault) → e ≡ get_or ts k d
-    → k < length ts → Stands (faults_in b e) c → Decides (faults_below b (kids_of (drop k ts))) w → Stands w c
+    → k < length ts → FailsWith (faults_in b e) c → Decides (faults_below b (kids_of (drop k ts))) w → FailsWith w c
 below_fault b ts k e d w c is below stands left =
     let P : Roses ArrayData → Type 0 = λ r. Decides (faults_below b r) w in
     decides_both_fault second (faults_in b e) (faults_below b (kids_of (drop (k + 1) ts))) w c stands
@@ -134,7 +134,7 @@ left_step b ts k e d t is below valid sound left =
 pub left_fault :
     (b : List ℕ) (ts : List (Rose ArrayData)) (k : ℕ) (e d t : Rose ArrayData) (c : StreamFault) → e ≡ get_or ts k d
     → k < length ts
-    → Stands (faults_in b e) c → Left b (kids_of (drop k ts)) t → Stands (faults_in b t) c
+    → FailsWith (faults_in b e) c → Left b (kids_of (drop k ts)) t → FailsWith (faults_in b t) c
 left_fault b ts k e d t c is below stands left = below_fault b ts k e d (faults_in b t) c is below stands left.decided
 
 pub left_valid :

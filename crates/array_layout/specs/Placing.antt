@@ -82,6 +82,18 @@ data_at nodes ranges n b l = record {
   values = values_at l ranges b;
 }
 
+-- and with these values, which its slots are indices of
+abbrev pub with_dictionary : Option DictionaryValues → ArrayData → ArrayData
+with_dictionary w p = record {
+  layout = p.layout;
+  dictionary = w;
+  len = p.len;
+  nulls = p.nulls;
+  validity = p.validity;
+  offsets = p.offsets;
+  values = p.values;
+}
+
 -- the array of a tree of layouts, its nodes and buffers from these numbers on
 abbrev mutual
   pub placed : List FieldNode → List BufferRange → ℕ → ℕ → Rose Layout → Rose ArrayData

@@ -8,9 +8,11 @@
 mod array;
 mod buffers;
 mod check;
+mod placing;
 mod runs;
 
 pub use array::{Array, ArrayData, BufferRange, DictionaryValues, FieldNode, own_ranges};
 pub use buffers::{bit, buffer, decimal, fixed, is_null_at, number, offset, slice};
 pub use check::check_layout;
+pub use placing::{ArrayCursor, array_at};
 pub use runs::run_end;

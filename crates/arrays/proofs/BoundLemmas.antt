@@ -58,7 +58,7 @@ use Rattle.values.specs.declared.layout.Layout.TheVariants.{
   List as Listed,
   Struct,
 }
-use Rattle.values.specs.Layouts.{bytes_in, offset_bytes, slot, slots, weight}
+use Rattle.values.specs.Layouts.{bytes_in, null_weight, null_weights, offset_bytes, weight}
 use Rattle.array_layout.specs.declared.array.DictionaryValues.{DictionaryValues}
 use Rattle.array_layout.specs.declared.array.ArrayData.{ArrayData}
 use Rattle.array_layout.specs.Placing.{bytes_of, layout_by, layout_of, layouts_of}
@@ -279,7 +279,7 @@ pub ruleset list_laws = (list_offsets, list_rising, list_child, child_sound, chi
 
 -- over a struct's children: what the sum so far and the children that are left weigh
 pub record Covers (s : ℕ) (b : List ℕ) (rest kids : Roses ArrayData) (n : ℕ) : Type 0 where
-  pub bare : s ≤ max_cell_weight → 1 + slots (layouts_of kids) ≤ s + slots (layouts_of rest)
+  pub bare : s ≤ max_cell_weight → 1 + null_weights (layouts_of kids) ≤ s + null_weights (layouts_of rest)
   pub each : s ≤ max_cell_weight → (i : ℕ) → i < n → 1 + weight_beside b kids i ≤ s + weight_beside b rest i
 
 pub covers_start : (s : ℕ) (b : List ℕ) (kids : Roses ArrayData) (n : ℕ) → s ≡ capped 1 → Covers s b kids kids n
@@ -289,7 +289,7 @@ covers_start s b kids n is =
 
 covers_more :
     (s x t : ℕ) (b : List ℕ) (e : Rose ArrayData) (rest kids : Roses ArrayData) (n : ℕ)
-    → IsBound x (slot (layout_of e)) (len_of e) (weight_at b e) → t ≡ capped (s + x) → n ≤ len_of e
+    → IsBound x (null_weight (layout_of e)) (len_of e) (weight_at b e) → t ≡ capped (s + x) → n ≤ len_of e
     → Covers s b (more e rest) kids n → Covers t b rest kids n
 covers_more s x t b e rest kids n child is long left = record {
   bare = λ small.
@@ -311,7 +311,7 @@ all_long ts k e d n is below long =
 
 pub covers_step :
     (b : List ℕ) (ts : List (Rose ArrayData)) (k : ℕ) (e d : Rose ArrayData) (s x t n : ℕ) → e ≡ get_or ts k d
-    → k < length ts → AreLong Struct n (kids_of ts) → IsBound x (slot (layout_of e)) (len_of e) (weight_at b e)
+    → k < length ts → AreLong Struct n (kids_of ts) → IsBound x (null_weight (layout_of e)) (len_of e) (weight_at b e)
     → t ≡ capped (s + x) → Covers s b (kids_of (drop k ts)) (kids_of ts) n
     → Covers t b (kids_of (drop (k + 1) ts)) (kids_of ts) n
 covers_step b ts k e d s x t n is below long child sum left =
@@ -320,7 +320,7 @@ covers_step b ts k e d s x t n is below long child sum left =
     (subst P (kids_step ts k e d is below) left)
 
 covers_all : (s : ℕ) (b : List ℕ) (kids : Roses ArrayData) (n : ℕ) → Covers s b none kids n
-    → IsBound s (1 + slots (layouts_of kids)) n (λ i. 1 + weight_beside b kids i)
+    → IsBound s (1 + null_weights (layouts_of kids)) n (λ i. 1 + weight_beside b kids i)
 covers_all s b kids n left = record {
   null = λ small. let h = left.bare small in omega (arith, h);
   each = λ small i below. let h = left.each small i below in omega (arith, h);
@@ -329,7 +329,7 @@ covers_all s b kids n left = record {
 pub covers_end :
     (b : List ℕ) (ts : List (Rose ArrayData)) (k s n : ℕ) → length ts ≤ k
     → Covers s b (kids_of (drop k ts)) (kids_of ts) n
-    → IsBound s (1 + slots (layouts_of (kids_of ts))) n (λ i. 1 + weight_beside b (kids_of ts) i)
+    → IsBound s (1 + null_weights (layouts_of (kids_of ts))) n (λ i. 1 + weight_beside b (kids_of ts) i)
 covers_end b ts k s n past left =
     let P : Roses ArrayData → Type 0 = λ r. Covers s b r (kids_of ts) n in
     covers_all s b (kids_of ts) n (subst P (kids_end ts k past) left)
@@ -339,8 +339,8 @@ pub ruleset row_laws = (covers_start, covers_end, kid_sound, kid_smaller)
 -- by layout
 abbrev BoundsBy : ℕ → List ℕ → ArrayData → Roses ArrayData → Layout → Type 0
 BoundsBy r b p kids l =
-    IsBound r (slot (node l (layouts_of kids))) p.len
-    (λ i. weight_by l b p (slot (node l (layouts_of kids))) (λ j. first_weight b kids j)
+    IsBound r (null_weight (node l (layouts_of kids))) p.len
+    (λ i. weight_by l b p (null_weight (node l (layouts_of kids))) (λ j. first_weight b kids j)
     (λ j. weight_beside b kids j) i)
 
 fixed_layout :
@@ -358,7 +358,7 @@ fixed_layout l one = elim one [
 ]
 
 fixed_same : (r : ℕ) (b : List ℕ) (p : ArrayData) (kids : Roses ArrayData) (l : Layout) → is_fixed l ≡ true
-    → r ≡ capped (slot (node l (layouts_of kids))) → BoundsBy r b p kids l
+    → r ≡ capped (null_weight (node l (layouts_of kids))) → BoundsBy r b p kids l
 fixed_same r b p kids Booleans fixed h = bounds_same r _ p.len h
 fixed_same r b p kids (Int w s) fixed h = bounds_same r _ p.len h
 fixed_same r b p kids (Decimal d) fixed h = bounds_same r _ p.len h
@@ -373,7 +373,7 @@ pub fixed_bounded :
     → (p.layout ≡ Booleans)
     ⊎ (((w : IntWidth) × (s : Bool) × (p.layout ≡ Int w s))
     ⊎ (((d : ℕ) × (p.layout ≡ Decimal d)) ⊎ ((w : ℕ) × (p.layout ≡ FixedSizeBinary w))))
-    → r ≡ capped (slot (node p.layout (layouts_of kids))) → BoundsBy r b p kids p.layout
+    → r ≡ capped (null_weight (node p.layout (layouts_of kids))) → BoundsBy r b p kids p.layout
 fixed_bounded r b p kids one h = fixed_same r b p kids p.layout (fixed_layout p.layout one) h
 
 pub texts_bounded :
@@ -398,7 +398,7 @@ lists_bounded r b p kids o is h = subst (BoundsBy r b p kids) (sym is) h
 
 pub structs_bounded :
     (r : ℕ) (b : List ℕ) (p : ArrayData) (kids : Roses ArrayData) → p.layout ≡ Struct
-    → IsBound r (1 + slots (layouts_of kids)) p.len (λ i. 1 + weight_beside b kids i) → BoundsBy r b p kids p.layout
+    → IsBound r (1 + null_weights (layouts_of kids)) p.len (λ i. 1 + weight_beside b kids i) → BoundsBy r b p kids p.layout
 structs_bounded r b p kids is h = subst (BoundsBy r b p kids) (sym is) h
 
 pub children_long : (b : List ℕ) (p : ArrayData) (kids : Roses ArrayData) → IsSound b (node p kids) → p.layout ≡ Struct
@@ -421,8 +421,8 @@ pub ruleset value_laws = (
 -- by the dictionary
 abbrev BoundsCoded : ℕ → List ℕ → ArrayData → Roses ArrayData → Option DictionaryValues → Type 0
 BoundsCoded r b p kids o =
-    IsBound r (slot (node (layout_by o p.layout) (layouts_of kids))) p.len
-    (λ i. slot_weight o b p (slot (node (layout_by o p.layout) (layouts_of kids))) (λ j. first_weight b kids j)
+    IsBound r (null_weight (node (layout_by o p.layout) (layouts_of kids))) p.len
+    (λ i. slot_weight o b p (null_weight (node (layout_by o p.layout) (layouts_of kids))) (λ j. first_weight b kids j)
     (λ j. weight_beside b kids j) i)
 
 null_or : (n : Bool) (x y r : ℕ) → x ≤ r → y ≤ r → (if n then x else y) ≤ r
@@ -430,7 +430,7 @@ null_or true x y r h k = h
 null_or false x y r h k = k
 
 slots_bounded : (r : ℕ) (b : List ℕ) (p : ArrayData) (kids : Roses ArrayData) → BoundsCoded r b p kids p.dictionary
-    → IsBound r (slot (layout_of (node p kids))) p.len (weight_at b (node p kids))
+    → IsBound r (null_weight (layout_of (node p kids))) p.len (weight_at b (node p kids))
 unfolding weight_in
 slots_bounded r b p kids h = record {
   null = h.null;
@@ -440,19 +440,19 @@ slots_bounded r b p kids h = record {
 
 pub plain_bounded :
     (r : ℕ) (b : List ℕ) (p : ArrayData) (kids : Roses ArrayData) → p.dictionary ≡ None → BoundsBy r b p kids p.layout
-    → IsBound r (slot (layout_of (node p kids))) p.len (weight_at b (node p kids))
+    → IsBound r (null_weight (layout_of (node p kids))) p.len (weight_at b (node p kids))
 plain_bounded r b p kids is h = slots_bounded r b p kids (subst (BoundsCoded r b p kids) (sym is) h)
 
 pub encoded_bounded :
     (r x s : ℕ) (b : List ℕ) (p : ArrayData) (kids : Roses ArrayData) (w : DictionaryValues) → p.dictionary ≡ Some w
-    → x ≡ capped (slot (node w.layout (layouts_of kids)))
-    → IsBound s (slot (node w.layout none)) p.len
+    → x ≡ capped (null_weight (node w.layout (layouts_of kids)))
+    → IsBound s (null_weight (node w.layout none)) p.len
     (λ i. encoded_weight w.layout (coded_by p.layout w.values (bytes_of b p.values) i))
-    → r ≡ max x s → IsBound r (slot (layout_of (node p kids))) p.len (weight_at b (node p kids))
+    → r ≡ max x s → IsBound r (null_weight (layout_of (node p kids))) p.len (weight_at b (node p kids))
 encoded_bounded r x s b p kids w is low values most =
     slots_bounded r b p kids
     (subst (BoundsCoded r b p kids) (sym is)
-    (bounds_over _ s x r _ (slot (node w.layout (layouts_of kids))) p.len values low most))
+    (bounds_over _ s x r _ (null_weight (node w.layout (layouts_of kids))) p.len values low most))
 
 pub ruleset own_laws = (plain_bounded, encoded_bounded, index_room)
 
@@ -475,7 +475,7 @@ value_counted l ds k w x o v found is weighs counted =
 
 value_under :
     (l : Layout) (ds : List Datum) (n r : ℕ) (o : Option Datum) → slice_get ds n ≡ o
-    → IsBound r (slot (node l none)) (length ds) (λ k. weight (node l none) (get_or ds k null)) → r ≤ max_cell_weight
+    → IsBound r (null_weight (node l none)) (length ds) (λ k. weight (node l none) (get_or ds k null)) → r ≤ max_cell_weight
     → encoded_weight l (must fault.DictionaryIndex o) ≤ r
 value_under l ds n r None is h small = h.null small
 value_under l ds n r (Some d) is h small =
@@ -484,14 +484,14 @@ value_under l ds n r (Some d) is h small =
 
 indexed_under :
     (l : Layout) (ds : List Datum) (z : ℤ) (r : ℕ)
-    → IsBound r (slot (node l none)) (length ds) (λ k. weight (node l none) (get_or ds k null)) → r ≤ max_cell_weight
+    → IsBound r (null_weight (node l none)) (length ds) (λ k. weight (node l none) (get_or ds k null)) → r ≤ max_cell_weight
     → encoded_weight l (indexed ds z) ≤ r
 indexed_under l ds (pos n) r h small = value_under l ds n r (slice_get ds n) refl h small
 indexed_under l ds (negsuc n) r h small = h.null small
 
 coded_under :
     (k l : Layout) (ds : List Datum) (indices : List ℕ) (i r : ℕ)
-    → IsBound r (slot (node l none)) (length ds) (λ k. weight (node l none) (get_or ds k null)) → r ≤ max_cell_weight
+    → IsBound r (null_weight (node l none)) (length ds) (λ k. weight (node l none) (get_or ds k null)) → r ≤ max_cell_weight
     → encoded_weight l (coded_by k ds indices i) ≤ r
 coded_under Booleans l ds indices i r h small = h.null small
 coded_under (Int w s) l ds indices i r h small = indexed_under l ds (number_at s (bytes_in w) indices i) r h small
@@ -504,21 +504,21 @@ coded_under Struct l ds indices i r h small = h.null small
 
 pub values_bounded :
     (k l : Layout) (ds : List Datum) (indices : List ℕ) (n r : ℕ)
-    → IsBound r (slot (node l none)) (length ds) (λ k. weight (node l none) (get_or ds k null))
-    → IsBound r (slot (node l none)) n (λ i. encoded_weight l (coded_by k ds indices i))
+    → IsBound r (null_weight (node l none)) (length ds) (λ k. weight (node l none) (get_or ds k null))
+    → IsBound r (null_weight (node l none)) n (λ i. encoded_weight l (coded_by k ds indices i))
 values_bounded k l ds indices n r h = record {
   null = h.null;
   each = λ small i below. coded_under k l ds indices i r h small;
 }
 
 pub fixed_coded :
-    (k l : Layout) (ds : List Datum) (indices : List ℕ) (n r : ℕ) → is_fixed l ≡ true → r ≡ capped (slot (node l none))
-    → IsBound r (slot (node l none)) n (λ i. encoded_weight l (coded_by k ds indices i))
+    (k l : Layout) (ds : List Datum) (indices : List ℕ) (n r : ℕ) → is_fixed l ≡ true → r ≡ capped (null_weight (node l none))
+    → IsBound r (null_weight (node l none)) n (λ i. encoded_weight l (coded_by k ds indices i))
 fixed_coded k l ds indices n r fixed is = record {
-  null = λ small. under (slot (node l none)) r r is (omega arith) small;
+  null = λ small. under (null_weight (node l none)) r r is (omega arith) small;
   each = λ small i below.
       let same = encoded-fixed l none (coded_by k ds indices i) fixed in
-      let low = under (slot (node l none)) r r is (omega arith) small in
+      let low = under (null_weight (node l none)) r r is (omega arith) small in
       omega (arith, same, low);
 }
 
@@ -545,11 +545,11 @@ valid_is (Err fs) valid = absurd valid
 pub column_bounded :
     (r : ℕ) (b a : List ℕ) (t : Rose ArrayData) (ls : Rose Layout) (ds : List Datum) → a ≡ b → layout_of t ≡ ls
     → valid_of (cells b t) ≡ ds → IsSound b t → IsValid (cells b t)
-    → IsBound r (slot (layout_of t)) (len_of t) (weight_at a t) → r ≤ max_cell_weight
+    → IsBound r (null_weight (layout_of t)) (len_of t) (weight_at a t) → r ≤ max_cell_weight
     → All (λ d. weight ls d ≤ r) ds
 column_bounded r b a t ls ds same typed are sound valid h small =
-    let A : List ℕ → Type 0 = λ x. IsBound r (slot (layout_of t)) (len_of t) (weight_at x t) in
+    let A : List ℕ → Type 0 = λ x. IsBound r (null_weight (layout_of t)) (len_of t) (weight_at x t) in
     let P : Rose Layout → List Datum → Type 0 = λ l xs. All (λ d. weight l d ≤ r) xs in
-    let there = cells_bounded b t (valid_of (cells b t)) r (slot (layout_of t)) sound (valid_is (cells b t) valid)
+    let there = cells_bounded b t (valid_of (cells b t)) r (null_weight (layout_of t)) sound (valid_is (cells b t) valid)
     (subst A same h) small in
     subst (λ l. P l ds) typed (subst (P (layout_of t)) are there)

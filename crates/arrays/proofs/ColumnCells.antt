@@ -27,7 +27,7 @@ use Rattle.array_layout.specs.Sound.{IsSound, faults_in}
 use Rattle.arrays.specs.Weights.{capped, weight_at, Says}
 use Rattle.arrays.proofs.WeightLaw.{cell_weighs}
 use Rattle.values.specs.Datum.{Datum}
-use Rattle.values.specs.Reading.{Reading, each, Stands, IsValid, Passes, ◌>>=◌}
+use Rattle.values.specs.Reading.{Reading, each, FailsWith, IsValid, Passes, ◌>>=◌}
 use Rattle.values.specs.Rose.{Rose}
 use Rattle.values.specs.declared.faults.StreamFault.{StreamFault}
 use Rattle.array_layout.specs.declared.array.ArrayData.{ArrayData}
@@ -74,11 +74,11 @@ cell-stands b t i d valid below is =
     got.1 ∙ ap (λ x. Some x) equal
 
 -- a column's faults are those of its buffers, or else those of its cells
-pub column-layout : (b : List ℕ) (t : Rose ArrayData) (c : StreamFault) → Stands (faults_in b t) c
-    → Stands (column_of b t) c
+pub column-layout : (b : List ℕ) (t : Rose ArrayData) (c : StreamFault) → FailsWith (faults_in b t) c
+    → FailsWith (column_of b t) c
 unfolding column_of
 column-layout b t c stands = by_cases (faults_in b t) stands where
-  by_cases : (m : Reading (Unit {0})) → Stands m c → Stands (m >>= λ u. cells b t) c
+  by_cases : (m : Reading (Unit {0})) → FailsWith m c → FailsWith (m >>= λ u. cells b t) c
   by_cases (Ok u) h = absurd h
   by_cases (Err fs) h = h
 
@@ -93,10 +93,10 @@ pub column-valid : (b : List ℕ) (t : Rose ArrayData) → IsValid (faults_in b 
     → column_of b t ≡ Ok (valid_of (cells b t))
 column-valid b t layout valid = column-cells b t layout ∙ valid_is (cells b t) valid
 
-pub column-faults : (b : List ℕ) (t : Rose ArrayData) (c : StreamFault) → IsValid (faults_in b t) → Stands (cells b t) c
-    → Stands (column_of b t) c
+pub column-faults : (b : List ℕ) (t : Rose ArrayData) (c : StreamFault) → IsValid (faults_in b t) → FailsWith (cells b t) c
+    → FailsWith (column_of b t) c
 column-faults b t c layout stands = let P : Reading (List Datum)
-    → Type 0 = λ m. Stands m c in subst P (sym (column-cells b t layout)) stands
+    → Type 0 = λ m. FailsWith m c in subst P (sym (column-cells b t layout)) stands
 
 pub cell-read :
     {E : Type 0} (r : Result Datum E) (b : List ℕ) (t : Rose ArrayData) (i : ℕ) → IsValid (cells b t) → i < len_of t

@@ -42,7 +42,7 @@ use Rattle.values.specs.declared.layout.Layout.TheVariants.{
   List as Listed,
   Struct,
 }
-use Rattle.values.specs.Layouts.{bytes_in, IsNode, Holds, slot, weight}
+use Rattle.values.specs.Layouts.{bytes_in, IsNode, Holds, null_weight, weight}
 use Rattle.array_layout.specs.declared.array.DictionaryValues.{DictionaryValues}
 use Rattle.array_layout.specs.declared.array.ArrayData.{ArrayData}
 use Rattle.array_layout.specs.Buffers.{number_at, number_by, unsigned_at}
@@ -183,7 +183,7 @@ found_weighs l o d m n r is some own h =
 
 pub missing_weighs :
     (l : Layout) (o : Option Datum) (m : Reading Datum) (n r : ℕ) → must fault.DictionaryIndex o ≡ m → o ≡ None
-    → n ≡ slot (node l none)
+    → n ≡ null_weight (node l none)
     → r ≡ capped n → r ≡ capped (encoded_weight l m)
 missing_weighs l o m n r is missing own h =
     let P : Option Datum → Type 0 = λ x. must fault.DictionaryIndex x ≡ m in

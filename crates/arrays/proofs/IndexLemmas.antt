@@ -33,7 +33,7 @@ use Rattle.std.proofs.lemmas.Bool.{le-ltb, lt-ltb, cases_lt}
 use Rattle.byteorder.specs.Endian.{twos_complement}
 use Rattle.values.specs.declared.faults.StreamFault.{StreamFault}
 use Rattle.values.specs.declared.faults.StreamFault.TheVariants as fault
-use Rattle.values.specs.Reading.{Reading, one, must, each, Stands, IsValid, Passes}
+use Rattle.values.specs.Reading.{Reading, one, must, each, FailsWith, IsValid, Passes}
 use Rattle.values.specs.Datum.{Datum, null}
 use Rattle.values.specs.declared.layout.IntWidth.{IntWidth}
 use Rattle.values.specs.declared.layout.Layout.{Layout}
@@ -130,11 +130,11 @@ below-valid s w indices i x b ds at is h =
 pub past-stands :
     (s : Bool) (w : IntWidth) (indices : List ℕ) (i x b : ℕ) (ds : List Datum)
     → x ≡ unsigned_at (bytes_in w) indices i → x < 2 ^ (8 * bytes_in w) → b ≡ index_bound s (bytes_in w) (length ds)
-    → b ≤ x → Stands (coded_by (Int w s) ds indices i) fault.DictionaryIndex
+    → b ≤ x → FailsWith (coded_by (Int w s) ds indices i) fault.DictionaryIndex
 unfolding number_at
 past-stands s w indices i x b ds at small is h =
-    let P : ℕ → Type 0 = λ y. Stands (indexed ds (number_by s (bytes_in w) y)) fault.DictionaryIndex in
-    let Q : Reading Datum → Type 0 = λ m. Stands m fault.DictionaryIndex in
+    let P : ℕ → Type 0 = λ y. FailsWith (indexed ds (number_by s (bytes_in w) y)) fault.DictionaryIndex in
+    let Q : Reading Datum → Type 0 = λ m. FailsWith m fault.DictionaryIndex in
     subst P at (subst Q (past-none s w x b ds small is h) refl)
 
 pub room-there : (w : IntWidth) (n i to : ℕ) → bytes_in w * to ≤ n → i < to → bytes_in w * (i + 1) ≤ n

@@ -28,7 +28,7 @@ use Rattle.std.proofs.lemmas.Bool.{cases_lt}
 use Rattle.std.proofs.lemmas.List.{length-take}
 use Rattle.values.specs.declared.faults.StreamFault.{StreamFault}
 use Rattle.values.specs.Datum.{Datum, null}
-use Rattle.values.specs.Reading.{Reading, cons, each, Stands, IsValid, Decides}
+use Rattle.values.specs.Reading.{Reading, cons, each, FailsWith, IsValid, Decides}
 use Rattle.values.proofs.Readings.{
   both_left,
   both_right,
@@ -69,13 +69,13 @@ valid-parts f i (suc m) n p q =
     (valid-parts f (i + 1) m n (valid_right cons (f i) (each f (i + 1) m) p) (subst Q e q)))
 
 pub stands-front :
-    {X : Type 0} (f : ℕ → Reading X) (i m n : ℕ) (c : StreamFault) → Stands (each f i m) c
-    → Stands (each f i (m + n)) c
+    {X : Type 0} (f : ℕ → Reading X) (i m n : ℕ) (c : StreamFault) → FailsWith (each f i m) c
+    → FailsWith (each f i (m + n)) c
 unfolding each
 stands-front f i zero n c h = absurd h
 stands-front f i (suc m) n c h =
     let z : suc m + n ≡ suc (m + n) = omega arith in
-    let P : ℕ → Type 0 = λ k. Stands (each f i k) c in
+    let P : ℕ → Type 0 = λ k. FailsWith (each f i k) c in
     subst P (sym z)
     (elim (stands_both cons (f i) (each f (i + 1) m) c h) [
       | inl a ↦ both_left cons (f i) (each f (i + 1) (m + n)) c a
@@ -83,20 +83,20 @@ stands-front f i (suc m) n c h =
     ])
 
 pub stands-back :
-    {X : Type 0} (f : ℕ → Reading X) (i m n : ℕ) (c : StreamFault) → Stands (each f (i + m) n) c
-    → Stands (each f i (m + n)) c
+    {X : Type 0} (f : ℕ → Reading X) (i m n : ℕ) (c : StreamFault) → FailsWith (each f (i + m) n) c
+    → FailsWith (each f i (m + n)) c
 unfolding each
 stands-back f i zero n c h =
     let z : 0 + n ≡ n = omega arith in
     let e : i + 0 ≡ i = omega arith in
-    let P : ℕ → Type 0 = λ k. Stands (each f i k) c in
-    let Q : ℕ → Type 0 = λ k. Stands (each f k n) c in
+    let P : ℕ → Type 0 = λ k. FailsWith (each f i k) c in
+    let Q : ℕ → Type 0 = λ k. FailsWith (each f k n) c in
     subst P (sym z) (subst Q e h)
 stands-back f i (suc m) n c h =
     let z : suc m + n ≡ suc (m + n) = omega arith in
     let e : i + suc m ≡ i + 1 + m = omega arith in
-    let P : ℕ → Type 0 = λ k. Stands (each f i k) c in
-    let Q : ℕ → Type 0 = λ k. Stands (each f k n) c in
+    let P : ℕ → Type 0 = λ k. FailsWith (each f i k) c in
+    let Q : ℕ → Type 0 = λ k. FailsWith (each f k n) c in
     subst P (sym z) (both_right cons (f i) (each f (i + 1) (m + n)) c (stands-back f (i + 1) m n c (subst Q e h)))
 
 -- the same of what a loop has left
@@ -109,8 +109,8 @@ range_step f at end to w up in_range valid left =
     let e : at + (end - at) ≡ end = omega (arith, up) in
     let P : ℕ → Type 0 = λ k. IsValid (each f at k) in
     let Q : ℕ → Type 0 = λ k. IsValid (each f k (to - end)) in
-    let S : StreamFault → ℕ → Type 0 = λ c k. Stands (each f at k) c in
-    let T : StreamFault → ℕ → Type 0 = λ c k. Stands (each f k (to - end)) c in
+    let S : StreamFault → ℕ → Type 0 = λ c k. FailsWith (each f at k) c in
+    let T : StreamFault → ℕ → Type 0 = λ c k. FailsWith (each f k (to - end)) c in
     record {
       valid = λ h. left.valid (subst P n (valid-parts f at (end - at) (to - end) valid (subst Q (sym e) h)));
       fault = λ c h. left.fault c (subst (S c) n (stands-back f at (end - at) (to - end) c (subst (T c) (sym e) h)));
@@ -118,11 +118,11 @@ range_step f at end to w up in_range valid left =
 
 pub range_fault :
     {X W : Type 0} (f : ℕ → Reading X) (at end to : ℕ) (w : Reading W) (c : StreamFault) → at ≤ end → end ≤ to
-    → Stands (each f at (end - at)) c
-    → Decides (each f at (to - at)) w → Stands w c
+    → FailsWith (each f at (end - at)) c
+    → Decides (each f at (to - at)) w → FailsWith w c
 range_fault f at end to w c up in_range stands left =
     let n : (end - at) + (to - end) ≡ to - at = omega (arith, up, in_range) in
-    let S : ℕ → Type 0 = λ k. Stands (each f at k) c in
+    let S : ℕ → Type 0 = λ k. FailsWith (each f at k) c in
     left.fault c (subst S n (stands-front f at (end - at) (to - end) c stands))
 
 -- what is so of each reading is so of all
@@ -144,8 +144,8 @@ each-same f g i (suc n) h =
     rw (here, rest) refl
 
 pub each-fault :
-    {X : Type 0} (f : ℕ → Reading X) (i n k : ℕ) (c : StreamFault) → i ≤ k → k < i + n → Stands (f k) c
-    → Stands (each f i n) c
+    {X : Type 0} (f : ℕ → Reading X) (i n k : ℕ) (c : StreamFault) → i ≤ k → k < i + n → FailsWith (f k) c
+    → FailsWith (each f i n) c
 unfolding each
 each-fault f i zero k c low high h = absurd (omega (arith, low, high))
 each-fault f i (suc n) k c low high h = elim (cases_lt i k) [
@@ -154,7 +154,7 @@ each-fault f i (suc n) k c low high h = elim (cases_lt i k) [
       (each-fault f (i + 1) n k c (omega (arith, past)) (omega (arith, high)) h)
   | inr here ↦
       let same : k ≡ i = omega (arith, low, here) in
-      both_left cons (f i) (each f (i + 1) n) c (subst (λ (m : ℕ). Stands (f m) c) same h)
+      both_left cons (f i) (each f (i + 1) n) c (subst (λ (m : ℕ). FailsWith (f m) c) same h)
 ]
 
 -- and the other way round
@@ -164,8 +164,8 @@ valid-at f i n k valid low high =
     subst (λ (m : ℕ). IsValid (f m)) same (valid_each f i n valid (k - i) (omega (arith, low, high)))
 
 pub fault-at :
-    {X : Type 0} (f : ℕ → Reading X) (i n : ℕ) (c : StreamFault) → Stands (each f i n) c
-    → (k : ℕ) × (i ≤ k) × (k < i + n) × Stands (f k) c
+    {X : Type 0} (f : ℕ → Reading X) (i n : ℕ) (c : StreamFault) → FailsWith (each f i n) c
+    → (k : ℕ) × (i ≤ k) × (k < i + n) × FailsWith (f k) c
 fault-at f i n c h = let r = stands_each f i n c h in (i + r.0, omega arith, omega (arith, r.1), r.2)
 
 -- one slot
@@ -190,21 +190,21 @@ unfolding where_valid
 slot_valid bits f i h valid = subst IsValid (sym (valid_here (is_null bits i) (f i) h)) valid
 
 pub slot_fault :
-    (bits : List ℕ) (f : ℕ → Reading Datum) (i : ℕ) (c : StreamFault) → is_null bits i ≡ false → Stands (f i) c
-    → Stands (where_valid bits f i) c
+    (bits : List ℕ) (f : ℕ → Reading Datum) (i : ℕ) (c : StreamFault) → is_null bits i ≡ false → FailsWith (f i) c
+    → FailsWith (where_valid bits f i) c
 unfolding where_valid
 slot_fault bits f i c h stands =
-    let P : Reading Datum → Type 0 = λ m. Stands m c in subst P (sym (valid_here (is_null bits i) (f i) h)) stands
+    let P : Reading Datum → Type 0 = λ m. FailsWith m c in subst P (sym (valid_here (is_null bits i) (f i) h)) stands
 
 -- a loop's fault, by what it has left
 pub each_fault :
     {X W : Type 0} (f : ℕ → Reading X) (i n : ℕ) (w : Reading W) (c : StreamFault) → Decides (each f i (n - i)) w
-    → i < n → Stands (f i) c → Stands w c
+    → i < n → FailsWith (f i) c → FailsWith w c
 each_fault f i n w c left below stands = decides_fault f i n w c below stands left
 
 pub slot_stands :
     {W : Type 0} (bits : List ℕ) (f : ℕ → Reading Datum) (i n : ℕ) (w : Reading W) (c : StreamFault)
-    → Decides (each (where_valid bits f) i (n - i)) w → i < n → is_null bits i ≡ false → Stands (f i) c → Stands w c
+    → Decides (each (where_valid bits f) i (n - i)) w → i < n → is_null bits i ≡ false → FailsWith (f i) c → FailsWith w c
 slot_stands bits f i n w c left below h stands =
     decides_fault (where_valid bits f) i n w c below (slot_fault bits f i c h stands) left
 
@@ -244,9 +244,9 @@ pub run_fault :
     → Decides (each (where_valid bits f) at (to - at)) w
     → is_null bits at ≡ false
     → ((k : ℕ) → at ≤ k → k < end → is_null bits k ≡ is_null bits at)
-    → at < end → end ≤ to → Stands (each f at (end - at)) c → Stands w c
+    → at < end → end ≤ to → FailsWith (each f at (end - at)) c → FailsWith w c
 run_fault bits f at end to w c left valid_at alike up in_range stands =
-    let P : Reading (List Datum) → Type 0 = λ m. Stands m c in
+    let P : Reading (List Datum) → Type 0 = λ m. FailsWith m c in
     range_fault (where_valid bits f) at end to w c (omega (arith, up)) in_range
     (subst P (same_run bits f at end valid_at alike up) stands) left
 

@@ -31,7 +31,7 @@ use Rattle.std.proofs.lemmas.Bool.{cases_lt}
 use Rattle.std.specs.Str.{is_utf8}
 use Rattle.values.specs.declared.faults.StreamFault.{StreamFault}
 use Rattle.values.specs.declared.faults.StreamFault.TheVariants as fault
-use Rattle.values.specs.Reading.{Reading, one, cons, mapped, must, each, Stands}
+use Rattle.values.specs.Reading.{Reading, one, cons, mapped, must, each, FailsWith}
 use Rattle.values.proofs.Readings.{both_left, both_right, stands_both, stands_each, stands_mapped}
 use Rattle.values.specs.Rose.{Rose, node, Roses, none, more}
 use Rattle.values.specs.Datum.{Datum, null, whole, text}
@@ -77,55 +77,55 @@ use Rattle.arrays.specs.Reached.{
   Found,
 }
 
-unmapped : {X Y : Type 0} (f : X → Y) (m : Reading X) (c : StreamFault) → Stands (mapped f m) c → Stands m c
+unmapped : {X Y : Type 0} (f : X → Y) (m : Reading X) (c : StreamFault) → FailsWith (mapped f m) c → FailsWith m c
 unmapped f (Ok x) c h = h
 unmapped f (Err fs) c h = h
 
-text_fault : (t : List ℕ) (c : StreamFault) → Stands (text_of t) c → (is_utf8 t ≡ false) × (fault.NotUtf8 ≡ c)
+text_fault : (t : List ℕ) (c : StreamFault) → FailsWith (text_of t) c → (is_utf8 t ≡ false) × (fault.NotUtf8 ≡ c)
 text_fault t c stands = by_cases (is_utf8 t) stands where
-  by_cases : (u : Bool) → Stands (if u then Ok (text t) else Err (one fault.NotUtf8)) c
+  by_cases : (u : Bool) → FailsWith (if u then Ok (text t) else Err (one fault.NotUtf8)) c
       → (u ≡ false) × (fault.NotUtf8 ≡ c)
   by_cases true h = absurd h
   by_cases false h = (refl, h)
 
-fault_text : (t : List ℕ) (c : StreamFault) → is_utf8 t ≡ false → fault.NotUtf8 ≡ c → Stands (text_of t) c
+fault_text : (t : List ℕ) (c : StreamFault) → is_utf8 t ≡ false → fault.NotUtf8 ≡ c → FailsWith (text_of t) c
 fault_text t c not is =
-    let P : Bool → Type 0 = λ u. Stands (if u then Ok (text t) else Err (one fault.NotUtf8)) c in subst P (sym not) is
+    let P : Bool → Type 0 = λ u. FailsWith (if u then Ok (text t) else Err (one fault.NotUtf8)) c in subst P (sym not) is
 
-decimal_fault : (d : ℕ) (z : ℤ) (c : StreamFault) → Stands (decimal_of d z) c
+decimal_fault : (d : ℕ) (z : ℤ) (c : StreamFault) → FailsWith (decimal_of d z) c
     → (10 ^ d ≤ nat_abs z) × (fault.DecimalRange ≡ c)
 decimal_fault d z c stands = by_cases (nat_lt (nat_abs z) (10 ^ d)) refl stands where
   by_cases :
-      (u : Bool) → nat_lt (nat_abs z) (10 ^ d) ≡ u → Stands (if u then Ok (whole z) else Err (one fault.DecimalRange)) c
+      (u : Bool) → nat_lt (nat_abs z) (10 ^ d) ≡ u → FailsWith (if u then Ok (whole z) else Err (one fault.DecimalRange)) c
       → (10 ^ d ≤ nat_abs z) × (fault.DecimalRange ≡ c)
   by_cases true same h = absurd h
   by_cases false same h = (grind arith, h)
 
 fault_decimal : (d : ℕ) (z : ℤ) (c : StreamFault) → 10 ^ d ≤ nat_abs z → fault.DecimalRange ≡ c
-    → Stands (decimal_of d z) c
+    → FailsWith (decimal_of d z) c
 fault_decimal d z c large is =
-    let P : Bool → Type 0 = λ u. Stands (if u then Ok (whole z) else Err (one fault.DecimalRange)) c in
+    let P : Bool → Type 0 = λ u. FailsWith (if u then Ok (whole z) else Err (one fault.DecimalRange)) c in
     let not : nat_lt (nat_abs z) (10 ^ d) ≡ false = grind arith in
     subst P (sym not) is
 
-each_stands : {X : Type 0} (f : ℕ → Reading X) (i n k : ℕ) (c : StreamFault) → k < n → Stands (f (i + k)) c
-    → Stands (each f i n) c
+each_stands : {X : Type 0} (f : ℕ → Reading X) (i n k : ℕ) (c : StreamFault) → k < n → FailsWith (f (i + k)) c
+    → FailsWith (each f i n) c
 unfolding each
 each_stands f i zero k c below h = absurd (omega arith)
 each_stands f i (suc n) zero c below h =
     let same : i + 0 ≡ i = omega arith in
-    both_left cons (f i) (each f (i + 1) n) c (subst (λ (m : ℕ). Stands (f m) c) same h)
+    both_left cons (f i) (each f (i + 1) n) c (subst (λ (m : ℕ). FailsWith (f m) c) same h)
 each_stands f i (suc n) (suc k) c below h =
     let same : i + suc k ≡ (i + 1) + k = omega arith in
     both_right cons (f i) (each f (i + 1) n) c
-    (each_stands f (i + 1) n k c (omega arith) (subst (λ (m : ℕ). Stands (f m) c) same h))
+    (each_stands f (i + 1) n k c (omega arith) (subst (λ (m : ℕ). FailsWith (f m) c) same h))
 
 -- one level, from the faults that stand
 value_found :
     (l : Layout) (b : List ℕ) (p : ArrayData) (here : ℕ → Reading Datum) (beside : ℕ
     → Reading (List Datum)) (i : ℕ) (c : StreamFault)
-    (F : ℕ → Type 0) (G : Type 0) → ((k : ℕ) → Stands (here k) c → F k) → (Stands (beside i) c → G)
-    → Stands (value_by l b p here beside i) c → OwnFault l b p i c ⊎ Below l (bytes_of b p.offsets) F G i
+    (F : ℕ → Type 0) (G : Type 0) → ((k : ℕ) → FailsWith (here k) c → F k) → (FailsWith (beside i) c → G)
+    → FailsWith (value_by l b p here beside i) c → OwnFault l b p i c ⊎ Below l (bytes_of b p.offsets) F G i
 value_found Booleans b p here beside i c F G f g h = absurd h
 value_found (Int w s) b p here beside i c F G f g h = absurd h
 value_found (Decimal d) b p here beside i c F G f g h =
@@ -146,7 +146,7 @@ value_found Struct b p here beside i c F G f g h = inr (g (unmapped _ (beside i)
 own_stands :
     (l : Layout) (b : List ℕ) (p : ArrayData) (here : ℕ → Reading Datum) (beside : ℕ
     → Reading (List Datum)) (i : ℕ) (c : StreamFault)
-    → OwnFault l b p i c → Stands (value_by l b p here beside i) c
+    → OwnFault l b p i c → FailsWith (value_by l b p here beside i) c
 own_stands Booleans b p here beside i c h = absurd h
 own_stands (Int w s) b p here beside i c h = absurd h
 own_stands (Decimal d) b p here beside i c h = fault_decimal d (number_at true 16 (bytes_of b p.values) i) c h.0 h.1
@@ -160,8 +160,8 @@ own_stands Struct b p here beside i c h = absurd h
 below_stands :
     (l : Layout) (b : List ℕ) (p : ArrayData) (here : ℕ → Reading Datum) (beside : ℕ
     → Reading (List Datum)) (i : ℕ) (c : StreamFault)
-    (F : ℕ → Type 0) (G : Type 0) → ((k : ℕ) → F k → Stands (here k) c) → (G → Stands (beside i) c)
-    → Below l (bytes_of b p.offsets) F G i → Stands (value_by l b p here beside i) c
+    (F : ℕ → Type 0) (G : Type 0) → ((k : ℕ) → F k → FailsWith (here k) c) → (G → FailsWith (beside i) c)
+    → Below l (bytes_of b p.offsets) F G i → FailsWith (value_by l b p here beside i) c
 below_stands Booleans b p here beside i c F G f g h = absurd h
 below_stands (Int w s) b p here beside i c F G f g h = absurd h
 below_stands (Decimal d) b p here beside i c F G f g h = absurd h
@@ -174,7 +174,7 @@ below_stands (Listed o) b p here beside i c F G f g h =
     let low : from ≤ h.0 = h.1 in
     let high : h.0 < to = h.2 in
     let same : h.0 ≡ from + (h.0 - from) = omega (arith, low) in
-    let P : ℕ → Type 0 = λ k. Stands (here k) c in
+    let P : ℕ → Type 0 = λ k. FailsWith (here k) c in
     stands_mapped _ (each here from (to - from)) c
     (each_stands here from (to - from) (h.0 - from) c (omega (arith, low, high)) (subst P same (f h.0 h.3)))
 below_stands Struct b p here beside i c F G f g h = stands_mapped _ (beside i) c (g h)
@@ -187,11 +187,11 @@ past ds n none_there = elim (cases_lt n (length ds)) [
 ]
 
 indexed_fault :
-    (ds : List Datum) (z : ℤ) (c : StreamFault) → Stands (indexed ds z) c
+    (ds : List Datum) (z : ℤ) (c : StreamFault) → FailsWith (indexed ds z) c
     → ((z <ℤ pos 0) ⊎ (pos (length ds) ≤ℤ z)) × (fault.DictionaryIndex ≡ c)
 indexed_fault ds (pos n) c h = by_cases (slice_get ds n) refl h where
   by_cases :
-      (o : Option Datum) → slice_get ds n ≡ o → Stands (must fault.DictionaryIndex o) c
+      (o : Option Datum) → slice_get ds n ≡ o → FailsWith (must fault.DictionaryIndex o) c
       → ((pos n <ℤ pos 0) ⊎ (pos (length ds) ≤ℤ pos n)) × (fault.DictionaryIndex ≡ c)
   by_cases None none_there stands = (inr (past ds n none_there), stands)
   by_cases (Some d) there stands = absurd stands
@@ -199,16 +199,16 @@ indexed_fault ds (negsuc n) c h = (inl (grind arith), h)
 
 fault_indexed :
     (ds : List Datum) (z : ℤ) (c : StreamFault) → (z <ℤ pos 0) ⊎ (pos (length ds) ≤ℤ z) → fault.DictionaryIndex ≡ c
-    → Stands (indexed ds z) c
+    → FailsWith (indexed ds z) c
 fault_indexed ds z c none_there is =
-    let P : Reading Datum → Type 0 = λ m. Stands m c in
+    let P : Reading Datum → Type 0 = λ m. FailsWith m c in
     elim none_there [
       | inl h ↦ subst P (index_negative ds z h) is
       | inr h ↦ subst P (index_past ds z h) is
     ]
 
 coded_fault :
-    (l : Layout) (ds : List Datum) (indices : List ℕ) (i : ℕ) (c : StreamFault) → Stands (coded_by l ds indices i) c
+    (l : Layout) (ds : List Datum) (indices : List ℕ) (i : ℕ) (c : StreamFault) → FailsWith (coded_by l ds indices i) c
     → HasNoValue l ds indices i × (fault.DictionaryIndex ≡ c)
 coded_fault Booleans ds indices i c h = (tt, h)
 coded_fault (Int w s) ds indices i c h = indexed_fault ds (number_at s (bytes_in w) indices i) c h
@@ -222,7 +222,7 @@ coded_fault Struct ds indices i c h = (tt, h)
 fault_coded :
     (l : Layout) (ds : List Datum) (indices : List ℕ) (i : ℕ) (c : StreamFault) → HasNoValue l ds indices i
     → fault.DictionaryIndex ≡ c
-    → Stands (coded_by l ds indices i) c
+    → FailsWith (coded_by l ds indices i) c
 fault_coded Booleans ds indices i c h is = is
 fault_coded (Int w s) ds indices i c h is = fault_indexed ds (number_at s (bytes_in w) indices i) c h is
 fault_coded (Decimal d) ds indices i c h is = is
@@ -236,28 +236,28 @@ fault_coded Struct ds indices i c h is = is
 slot_found :
     (o : Option DictionaryValues) (b : List ℕ) (p : ArrayData) (here : ℕ → Reading Datum) (beside : ℕ
     → Reading (List Datum)) (i : ℕ) (c : StreamFault)
-    (F : ℕ → Type 0) (G : Type 0) → ((k : ℕ) → Stands (here k) c → F k) → (Stands (beside i) c → G)
-    → Stands (slot_by o b p here beside i) c → SlotFault o b p i c ⊎ BelowSlot o p.layout (bytes_of b p.offsets) F G i
+    (F : ℕ → Type 0) (G : Type 0) → ((k : ℕ) → FailsWith (here k) c → F k) → (FailsWith (beside i) c → G)
+    → FailsWith (slot_by o b p here beside i) c → SlotFault o b p i c ⊎ BelowSlot o p.layout (bytes_of b p.offsets) F G i
 slot_found None b p here beside i c F G f g h = value_found p.layout b p here beside i c F G f g h
 slot_found (Some w) b p here beside i c F G f g h = inl (coded_fault p.layout w.values (bytes_of b p.values) i c h)
 
 slot_own :
     (o : Option DictionaryValues) (b : List ℕ) (p : ArrayData) (here : ℕ → Reading Datum) (beside : ℕ
     → Reading (List Datum)) (i : ℕ) (c : StreamFault)
-    → SlotFault o b p i c → Stands (slot_by o b p here beside i) c
+    → SlotFault o b p i c → FailsWith (slot_by o b p here beside i) c
 slot_own None b p here beside i c h = own_stands p.layout b p here beside i c h
 slot_own (Some w) b p here beside i c h = fault_coded p.layout w.values (bytes_of b p.values) i c h.0 h.1
 
 slot_below :
     (o : Option DictionaryValues) (b : List ℕ) (p : ArrayData) (here : ℕ → Reading Datum) (beside : ℕ
     → Reading (List Datum)) (i : ℕ) (c : StreamFault)
-    (F : ℕ → Type 0) (G : Type 0) → ((k : ℕ) → F k → Stands (here k) c) → (G → Stands (beside i) c)
-    → BelowSlot o p.layout (bytes_of b p.offsets) F G i → Stands (slot_by o b p here beside i) c
+    (F : ℕ → Type 0) (G : Type 0) → ((k : ℕ) → F k → FailsWith (here k) c) → (G → FailsWith (beside i) c)
+    → BelowSlot o p.layout (bytes_of b p.offsets) F G i → FailsWith (slot_by o b p here beside i) c
 slot_below None b p here beside i c F G f g h = below_stands p.layout b p here beside i c F G f g h
 slot_below (Some w) b p here beside i c F G f g h = absurd h
 
-null_found : (n : Bool) (m : Reading Datum) (c : StreamFault) → Stands (if n then Ok null else m) c
-    → (n ≡ false) × Stands m c
+null_found : (n : Bool) (m : Reading Datum) (c : StreamFault) → FailsWith (if n then Ok null else m) c
+    → (n ≡ false) × FailsWith m c
 null_found true m c h = absurd h
 null_found false m c h = (refl, h)
 
@@ -295,7 +295,7 @@ slot_below_found (Some w) l b offsets kids i c h = absurd h
 mutual
   unfolding cell_by
 
-  pub found_cell : (b : List ℕ) (t : Rose ArrayData) (i : ℕ) (c : StreamFault) → Stands (cell b t i) c → Found b t i c
+  pub found_cell : (b : List ℕ) (t : Rose ArrayData) (i : ℕ) (c : StreamFault) → FailsWith (cell b t i) c → Found b t i c
   found_cell b (node p kids) i c stands =
       let valid =
       null_found (is_null (bytes_of b p.validity) i)
@@ -309,12 +309,12 @@ mutual
             (found.0, found.1, inr (valid.0, found.2), found.3)
       ]
 
-  found_first : (b : List ℕ) (kids : Roses ArrayData) (k : ℕ) (c : StreamFault) → Stands (first_cell b kids k) c
+  found_first : (b : List ℕ) (kids : Roses ArrayData) (k : ℕ) (c : StreamFault) → FailsWith (first_cell b kids k) c
       → FoundFirst b kids k c
   found_first b none k c h = absurd h
   found_first b (more t ts) k c h = found_cell b t k c h
 
-  found_beside : (b : List ℕ) (kids : Roses ArrayData) (i : ℕ) (c : StreamFault) → Stands (row b kids i) c
+  found_beside : (b : List ℕ) (kids : Roses ArrayData) (i : ℕ) (c : StreamFault) → FailsWith (row b kids i) c
       → FoundBeside b kids i c
   found_beside b none i c h = absurd h
   found_beside b (more t ts) i c h =
@@ -323,16 +323,16 @@ mutual
         | inr rest ↦ let found = found_beside b ts i c rest in (found.0, found.1, inr found.2, found.3)
       ]
 
-null_stands : (n : Bool) (m : Reading Datum) (c : StreamFault) → n ≡ false → Stands m c
-    → Stands (if n then Ok null else m) c
-null_stands n m c there h = let P : Bool → Type 0 = λ x. Stands (if x then Ok null else m) c in subst P (sym there) h
+null_stands : (n : Bool) (m : Reading Datum) (c : StreamFault) → n ≡ false → FailsWith m c
+    → FailsWith (if n then Ok null else m) c
+null_stands n m c there h = let P : Bool → Type 0 = λ x. FailsWith (if x then Ok null else m) c in subst P (sym there) h
 
 mutual
   unfolding cell_by
 
   pub reached_stands :
       (b : List ℕ) (t : Rose ArrayData) (i : ℕ) (u : Rose ArrayData) (j : ℕ) (c : StreamFault) → Reaches b t i u j
-      → HasFault b u j c → Stands (cell b t i) c
+      → HasFault b u j c → FailsWith (cell b t i) c
   reached_stands b (node p kids) i u j c reaches has =
       elim reaches [
         | inl same ↦
@@ -350,14 +350,14 @@ mutual
   first_stands :
       (b : List ℕ) (kids : Roses ArrayData) (i : ℕ) (u : Rose ArrayData) (j : ℕ) (c : StreamFault)
       → ReachesFirst b kids i u j → HasFault b u j c
-      → Stands (first_cell b kids i) c
+      → FailsWith (first_cell b kids i) c
   first_stands b none i u j c h has = absurd h
   first_stands b (more t ts) i u j c h has = reached_stands b t i u j c h has
 
   beside_stands :
       (b : List ℕ) (kids : Roses ArrayData) (i : ℕ) (u : Rose ArrayData) (j : ℕ) (c : StreamFault)
       → ReachesBeside b kids i u j → HasFault b u j c
-      → Stands (row b kids i) c
+      → FailsWith (row b kids i) c
   beside_stands b none i u j c h has = absurd h
   beside_stands b (more t ts) i u j c h has =
       elim h [
@@ -365,7 +365,7 @@ mutual
         | inr rest ↦ both_right cons (cell b t i) (row b ts i) c (beside_stands b ts i u j c rest has)
       ]
 
-pub found_stands : (b : List ℕ) (t : Rose ArrayData) (i : ℕ) (c : StreamFault) → Found b t i c → Stands (cell b t i) c
+pub found_stands : (b : List ℕ) (t : Rose ArrayData) (i : ℕ) (c : StreamFault) → Found b t i c → FailsWith (cell b t i) c
 found_stands b t i c found = reached_stands b t i found.0 found.1 c found.2 found.3
 
 pub ruleset reaching = (found_cell, found_stands)

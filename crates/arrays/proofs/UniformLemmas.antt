@@ -34,7 +34,7 @@ use Rattle.values.specs.declared.layout.Layout.TheVariants.{
   List as Listed,
   Struct,
 }
-use Rattle.values.specs.Layouts.{slot, slots, weight}
+use Rattle.values.specs.Layouts.{null_weight, null_weights, weight}
 use Rattle.values.specs.Rose.{Rose, node, Roses, none, more, kids_of}
 use Rattle.values.proofs.Roses.{kids_step, kids_end}
 use Rattle.array_layout.specs.declared.array.DictionaryValues.{DictionaryValues}
@@ -90,7 +90,7 @@ both_true false b h = cc
 
 -- what a value of a fixed width weighs
 fixed-weight : (l : Layout) (kids : Roses Layout) (d : Datum) → is_fixed l ≡ true
-    → weight (node l none) d ≡ slot (node l kids)
+    → weight (node l none) d ≡ null_weight (node l kids)
 fixed-weight Booleans kids d h = refl
 fixed-weight (Int w s) kids d h = refl
 fixed-weight (Decimal p) kids d h = refl
@@ -100,25 +100,25 @@ fixed-weight (Binary o) kids d h = cc
 fixed-weight (Listed o) kids d h = cc
 fixed-weight Struct kids d h = cc
 
-fixed-slot : (l : Layout) (kids : Roses Layout) → is_fixed l ≡ true → slot (node l none) ≡ slot (node l kids)
-fixed-slot Booleans kids h = refl
-fixed-slot (Int w s) kids h = refl
-fixed-slot (Decimal p) kids h = refl
-fixed-slot (FixedSizeBinary w) kids h = refl
-fixed-slot (Utf8 o) kids h = cc
-fixed-slot (Binary o) kids h = cc
-fixed-slot (Listed o) kids h = cc
-fixed-slot Struct kids h = cc
+fixed-null_weight : (l : Layout) (kids : Roses Layout) → is_fixed l ≡ true → null_weight (node l none) ≡ null_weight (node l kids)
+fixed-null_weight Booleans kids h = refl
+fixed-null_weight (Int w s) kids h = refl
+fixed-null_weight (Decimal p) kids h = refl
+fixed-null_weight (FixedSizeBinary w) kids h = refl
+fixed-null_weight (Utf8 o) kids h = cc
+fixed-null_weight (Binary o) kids h = cc
+fixed-null_weight (Listed o) kids h = cc
+fixed-null_weight Struct kids h = cc
 
 pub encoded-fixed : (l : Layout) (kids : Roses Layout) (m : Reading Datum) → is_fixed l ≡ true
-    → encoded_weight l m ≡ slot (node l kids)
+    → encoded_weight l m ≡ null_weight (node l kids)
 encoded-fixed l kids (Ok d) h = fixed-weight l kids d h
-encoded-fixed l kids (Err fs) h = fixed-slot l kids h
+encoded-fixed l kids (Err fs) h = fixed-null_weight l kids h
 
 plain-uniform :
     (l : Layout) (b : List ℕ) (p : ArrayData) (kids : Roses Layout) (here beside : ℕ → ℕ) (i : ℕ)
     → is_uniform_layout l ≡ true
-    → beside i ≡ slots kids → weight_by l b p (slot (node l kids)) here beside i ≡ slot (node l kids)
+    → beside i ≡ null_weights kids → weight_by l b p (null_weight (node l kids)) here beside i ≡ null_weight (node l kids)
 plain-uniform Booleans b p kids here beside i h e = refl
 plain-uniform (Int w s) b p kids here beside i h e = refl
 plain-uniform (Decimal d) b p kids here beside i h e = refl
@@ -128,13 +128,13 @@ plain-uniform (Binary o) b p kids here beside i h e = cc
 plain-uniform (Listed o) b p kids here beside i h e = cc
 plain-uniform Struct b p kids here beside i h e = ap (λ n. 1 + n) e
 
-slot-uniform :
+null_weight-uniform :
     (d : Option DictionaryValues) (b : List ℕ) (p : ArrayData) (kids : Roses Layout) (here beside : ℕ → ℕ) (i : ℕ)
-    → is_uniform_data d p.layout ≡ true → beside i ≡ slots kids
-    → slot_weight d b p (slot (node (layout_by d p.layout) kids)) here beside i
-    ≡ slot (node (layout_by d p.layout) kids)
-slot-uniform None b p kids here beside i h e = plain-uniform p.layout b p kids here beside i h e
-slot-uniform (Some w) b p kids here beside i h e =
+    → is_uniform_data d p.layout ≡ true → beside i ≡ null_weights kids
+    → slot_weight d b p (null_weight (node (layout_by d p.layout) kids)) here beside i
+    ≡ null_weight (node (layout_by d p.layout) kids)
+null_weight-uniform None b p kids here beside i h e = plain-uniform p.layout b p kids here beside i h e
+null_weight-uniform (Some w) b p kids here beside i h e =
     encoded-fixed w.layout kids (coded_by p.layout w.values (bytes_of b p.values) i) h
 
 either : (n : Bool) (x y : ℕ) → y ≡ x → (if n then x else y) ≡ x
@@ -145,16 +145,16 @@ mutual
   unfolding weight_in
 
   pub uniform-weight : (b : List ℕ) (t : Rose ArrayData) (i : ℕ) → is_uniform t ≡ true
-      → weight_at b t i ≡ slot (layout_of t)
+      → weight_at b t i ≡ null_weight (layout_of t)
   uniform-weight b (node p kids) i h =
       let parts = both_true (is_uniform_data p.dictionary p.layout) (are_uniform kids) h in
-      either (is_null (bytes_of b p.validity) i) (slot (node (layout_by p.dictionary p.layout) (layouts_of kids))) _
-      (slot-uniform p.dictionary b p (layouts_of kids) (λ j. first_weight b kids j) (λ j. weight_beside b kids j) i
+      either (is_null (bytes_of b p.validity) i) (null_weight (node (layout_by p.dictionary p.layout) (layouts_of kids))) _
+      (null_weight-uniform p.dictionary b p (layouts_of kids) (λ j. first_weight b kids j) (λ j. weight_beside b kids j) i
       parts.0
       (uniform-beside b kids i parts.1))
 
   uniform-beside : (b : List ℕ) (ts : Roses ArrayData) (i : ℕ) → are_uniform ts ≡ true
-      → weight_beside b ts i ≡ slots (layouts_of ts)
+      → weight_beside b ts i ≡ null_weights (layouts_of ts)
   uniform-beside b none i h = refl
   uniform-beside b (more t ts) i h =
       let parts = both_true (is_uniform t) (are_uniform ts) h in
@@ -178,11 +178,11 @@ capped-times w (suc n) = grind arith
 
 -- items that weigh the same
 pub items-alike :
-    (b : List ℕ) (t : Rose ArrayData) (i n s r : ℕ) → is_uniform t ≡ true → s ≡ capped (slot (layout_of t))
+    (b : List ℕ) (t : Rose ArrayData) (i n s r : ℕ) → is_uniform t ≡ true → s ≡ capped (null_weight (layout_of t))
     → r ≡ capped (s * n + 5)
     → r ≡ capped (5 + sum_from (weight_at b t) i n)
 items-alike b t i n s r even is e =
-    let w : ℕ = slot (layout_of t) in
+    let w : ℕ = null_weight (layout_of t) in
     e ∙ ap (λ k. capped (k * n + 5)) is ∙ capped-times w n
     ∙ ap (λ k. capped (5 + k)) (sym (sum-alike (weight_at b t) w i n (λ k. uniform-weight b t k even)))
 

@@ -28,7 +28,7 @@ use Rattle.std.specs.Prelude.{Result, Option, None, Some, Ok, Err, Bool, true, f
 use Rattle.std.proofs.lemmas.Bool.{cases_lt}
 use Rattle.values.specs.Limits.{max_precision}
 use Rattle.values.specs.declared.faults.StreamFault.{StreamFault}
-use Rattle.values.specs.Reading.{Reading, cons, second, mapped, each, Stands, IsValid, Passes, Decides}
+use Rattle.values.specs.Reading.{Reading, cons, second, mapped, each, FailsWith, IsValid, Passes, Decides}
 use Rattle.values.proofs.Readings.{
   both_left,
   both_right,
@@ -200,8 +200,8 @@ kid_long ts k e d i is below long =
     omega (arith, most)
 
 -- a struct, child by child
-where_fault : (b : Bool) (m : Reading Datum) (c : StreamFault) → Stands (if b then Ok null else m) c
-    → (b ≡ false) × Stands m c
+where_fault : (b : Bool) (m : Reading Datum) (c : StreamFault) → FailsWith (if b then Ok null else m) c
+    → (b ≡ false) × FailsWith m c
 where_fault true m c h = absurd h
 where_fault false m c h = (refl, h)
 
@@ -226,8 +226,8 @@ row_valid b bits (more t ts) i n k valid low high here =
     (row_valid b bits ts i n k (valid_right second all rest valid) low high here)
 
 row_faulty :
-    (b bits : List ℕ) (kids : Roses ArrayData) (i n : ℕ) (c : StreamFault) → Stands (columns b bits kids i n) c
-    → (k : ℕ) × (i ≤ k) × (k < i + n) × (is_null bits k ≡ false) × Stands (row b kids k) c
+    (b bits : List ℕ) (kids : Roses ArrayData) (i n : ℕ) (c : StreamFault) → FailsWith (columns b bits kids i n) c
+    → (k : ℕ) × (i ≤ k) × (k < i + n) × (is_null bits k ≡ false) × FailsWith (row b kids k) c
 unfolding where_valid
 row_faulty b bits none i n c h = absurd h
 row_faulty b bits (more t ts) i n c h =
@@ -274,8 +274,8 @@ columns_step b bits ts k e d i n w is below valid left =
 pub columns_fault :
     {W : Type 0} (b bits : List ℕ) (ts : List (Rose ArrayData)) (k : ℕ) (e d : Rose ArrayData) (i n : ℕ)
     (w : Reading W) (c : StreamFault) → e ≡ get_or ts k d → k < length ts
-    → Stands (each (where_valid bits (cell b e)) i n) c → Decides (columns b bits (kids_of (drop k ts)) i n) w
-    → Stands w c
+    → FailsWith (each (where_valid bits (cell b e)) i n) c → Decides (columns b bits (kids_of (drop k ts)) i n) w
+    → FailsWith w c
 columns_fault b bits ts k e d i n w c is below stands left =
     let P : Roses ArrayData → Type 0 = λ r. Decides (columns b bits r i n) w in
     decides_both_fault second (each (where_valid bits (cell b e)) i n) (columns b bits (kids_of (drop (k + 1) ts)) i n)
@@ -347,8 +347,8 @@ lists_valid item o offsets to limit at end fit up in_range valid =
 pub lists_fault :
     (item : ℕ → Reading Datum) (o : OffsetWidth) (offsets : List ℕ) (to limit at end : ℕ) (c : StreamFault)
     → AreFit o offsets to limit → at < end → end ≤ to
-    → Stands (each item (offset_at o offsets at) (offset_at o offsets end - offset_at o offsets at)) c
-    → Stands (each (λ i. list_of (items_at item o offsets i)) at (end - at)) c
+    → FailsWith (each item (offset_at o offsets at) (offset_at o offsets end - offset_at o offsets at)) c
+    → FailsWith (each (λ i. list_of (items_at item o offsets i)) at (end - at)) c
 lists_fault item o offsets to limit at end c fit up in_range stands =
     let off = offset_at o offsets in
     let all : off at ≤ off end = offsets_rise o offsets to limit at end fit (omega (arith, up)) in_range in

@@ -36,7 +36,7 @@ use Rattle.values.specs.declared.layout.Layout.TheVariants.{
   List as Listed,
   Struct,
 }
-use Rattle.values.specs.Layouts.{bytes_in, IsNode, slot, weight, items_weight, row_weight}
+use Rattle.values.specs.Layouts.{bytes_in, IsNode, null_weight, weight, items_weight, row_weight}
 use Rattle.bitmaps.specs.Bits.{bit_at}
 use Rattle.array_layout.specs.declared.array.DictionaryValues.{DictionaryValues}
 use Rattle.array_layout.specs.declared.array.ArrayData.{ArrayData}
@@ -59,7 +59,7 @@ use Rattle.arrays.proofs.ValidationLemmas.{text_fit, bytes_fit, struct_long, and
 use Rattle.arrays.proofs.TypeLemmas.{text_holds, decimal_holds, first_is, first_long, some_child, length_take}
 
 -- a null, and a value without bytes or items, weigh their slot
-null_weighs : (t : Rose Layout) → slot t ≡ weight t null
+null_weighs : (t : Rose Layout) → null_weight t ≡ weight t null
 null_weighs (node Booleans kids) = refl
 null_weighs (node (Int w s) kids) = refl
 null_weighs (node (Decimal p) kids) = refl
@@ -126,7 +126,7 @@ items_weighed b p (more t ts) o i ds below fit weighed some read =
     (omega (arith, rising, within)) weighed read
 
 abbrev bare : Layout → Roses ArrayData → ℕ
-bare l kids = slot (node l (layouts_of kids))
+bare l kids = null_weight (node l (layouts_of kids))
 
 abbrev weight_here : Layout → List ℕ → ArrayData → Roses ArrayData → ℕ → ℕ
 weight_here l b p kids i = weight_by l b p (bare l kids) (λ j. first_weight b kids j) (λ j. weight_beside b kids j) i
@@ -192,9 +192,9 @@ encoded_or_plain (Some w) b p kids i d sound below weighed rows read =
 slot_weighs :
     (n : Bool) (t : Rose Layout) (m : Reading Datum) (w : ℕ) (d : Datum) → (m ≡ Ok d → w ≡ weight t d)
     → (if n then Ok null else m) ≡ Ok d
-    → (if n then slot t else w) ≡ weight t d
+    → (if n then null_weight t else w) ≡ weight t d
 slot_weighs true t m w d h e = let same : null ≡ d = cc in
-    subst (λ (x : Datum). slot t ≡ weight t x) same (null_weighs t)
+    subst (λ (x : Datum). null_weight t ≡ weight t x) same (null_weighs t)
 slot_weighs false t m w d h e = h e
 
 mutual

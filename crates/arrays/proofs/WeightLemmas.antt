@@ -23,12 +23,12 @@ use Rattle.std.proofs.Common.{
 use Rattle.std.specs.Prelude.{Option, None, Some, Bool, false, if◌then◌else◌}
 use Rattle.values.specs.Limits.{max_cell_weight}
 use Rattle.values.specs.Rose.{Rose, node, Roses, none, kids_of}
-use Rattle.values.proofs.WeightLemmas.{own-slot}
+use Rattle.values.proofs.WeightLemmas.{own-null_weight}
 use Rattle.values.proofs.Roses.{kids_step, kids_end, kid_smaller}
 use Rattle.values.specs.declared.layout.OffsetWidth.{OffsetWidth}
 use Rattle.values.specs.declared.layout.Layout.{Layout}
 use Rattle.values.specs.declared.layout.Layout.TheVariants.{List as Listed, Struct}
-use Rattle.values.specs.Layouts.{slot, slots}
+use Rattle.values.specs.Layouts.{null_weight, null_weights}
 use Rattle.array_layout.specs.declared.array.DictionaryValues.{DictionaryValues}
 use Rattle.array_layout.specs.declared.array.ArrayData.{ArrayData}
 use Rattle.array_layout.specs.Placing.{bytes_of, layout_by, layout_of, layouts_of}
@@ -155,27 +155,27 @@ pub ruleset row_laws = (items_start, row_step, row_end, sum_full, kid_long, kid_
 -- over the children's slots
 pub slots_step :
     (ts : List (Rose ArrayData)) (k : ℕ) (e d : Rose ArrayData) (s x t w : ℕ) → e ≡ get_or ts k d → k < length ts
-    → x ≡ capped (slot (layout_of e))
-    → t ≡ capped (s + x) → capped (s + slots (layouts_of (kids_of (drop k ts)))) ≡ w
-    → capped (t + slots (layouts_of (kids_of (drop (k + 1) ts)))) ≡ w
+    → x ≡ capped (null_weight (layout_of e))
+    → t ≡ capped (s + x) → capped (s + null_weights (layouts_of (kids_of (drop k ts)))) ≡ w
+    → capped (t + null_weights (layouts_of (kids_of (drop (k + 1) ts)))) ≡ w
 slots_step ts k e d s x t w is below here sum left =
-    let P : Roses ArrayData → Type 0 = λ r. capped (s + slots (layouts_of r)) ≡ w in
-    sum_more s x t (slot (layout_of e)) (slots (layouts_of (kids_of (drop (k + 1) ts)))) w here sum
+    let P : Roses ArrayData → Type 0 = λ r. capped (s + null_weights (layouts_of r)) ≡ w in
+    sum_more s x t (null_weight (layout_of e)) (null_weights (layouts_of (kids_of (drop (k + 1) ts)))) w here sum
     (subst P (kids_step ts k e d is below) left)
 
 pub slots_end :
     (ts : List (Rose ArrayData)) (k s w : ℕ) → length ts ≤ k → s ≤ max_cell_weight + 1
-    → capped (s + slots (layouts_of (kids_of (drop k ts)))) ≡ w → s ≡ w
+    → capped (s + null_weights (layouts_of (kids_of (drop k ts)))) ≡ w → s ≡ w
 slots_end ts k s w past bound left =
-    let none_left : slots (layouts_of (kids_of (drop k ts))) ≡ 0 =
-    ap (λ r. slots (layouts_of r)) (kids_end ts k past) in
-    sum_none s (slots (layouts_of (kids_of (drop k ts)))) w bound none_left left
+    let none_left : null_weights (layouts_of (kids_of (drop k ts))) ≡ 0 =
+    ap (λ r. null_weights (layouts_of r)) (kids_end ts k past) in
+    sum_none s (null_weights (layouts_of (kids_of (drop k ts)))) w bound none_left left
 
 -- nothing else has children
 pub bare_slot :
-    (l : Layout) (kids : Roses Layout) (n r : ℕ) → ¬ (l ≡ Struct) → n ≡ slot (node l none) → r ≡ capped n
-    → r ≡ capped (slot (node l kids))
-bare_slot l kids n r single own is = is ∙ ap capped (own ∙ sym (own-slot l kids single))
+    (l : Layout) (kids : Roses Layout) (n r : ℕ) → ¬ (l ≡ Struct) → n ≡ null_weight (node l none) → r ≡ capped n
+    → r ≡ capped (null_weight (node l kids))
+bare_slot l kids n r single own is = is ∙ ap capped (own ∙ sym (own-null_weight l kids single))
 
 pub ruleset slot_laws = (items_start, slots_step, slots_end, kid_smaller)
 
@@ -229,13 +229,13 @@ pub encoded_weighs :
 encoded_weighs r b p kids w i there is h = slot_weighs r b p _ kids (Some w) i there is h
 
 abbrev slot_by_dictionary : ArrayData → Roses ArrayData → Option DictionaryValues → ℕ
-slot_by_dictionary p kids o = slot (node (layout_by o p.layout) (layouts_of kids))
+slot_by_dictionary p kids o = null_weight (node (layout_by o p.layout) (layouts_of kids))
 
 pub value_weighs :
     (r : ℕ) (b : List ℕ) (p : ArrayData) (kids : Roses ArrayData) (i : ℕ) → is_null (bytes_of b p.validity) i ≡ false
     → p.dictionary ≡ None
     → r ≡ capped
-    (weight_by p.layout b p (slot (node p.layout (layouts_of kids))) (λ j. first_weight b kids j)
+    (weight_by p.layout b p (null_weight (node p.layout (layouts_of kids))) (λ j. first_weight b kids j)
     (λ j. weight_beside b kids j) i)
     → r ≡ capped (weight_at b (node p kids) i)
 value_weighs r b p kids i there is h =

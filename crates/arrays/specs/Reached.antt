@@ -23,7 +23,7 @@ use Rattle.std.specs.Prelude.{
 }
 use Rattle.std.specs.Str.{is_utf8}
 use Rattle.values.specs.Rose.{Rose, node, Roses, none, more}
-use Rattle.values.specs.Reading.{Stands}
+use Rattle.values.specs.Reading.{FailsWith}
 use Rattle.values.specs.declared.faults.StreamFault.{StreamFault}
 use Rattle.values.specs.declared.faults.StreamFault.TheVariants as fault
 use Rattle.values.specs.declared.layout.Layout.{Layout}
@@ -97,9 +97,9 @@ Found body t i c = (u : Rose ArrayData) × (j : ℕ) × Reaches body t i u j × 
 
 -- a fault stands in a cell exactly where a slot that it reaches has it
 abbrev pub FaultsAreReached : Type 0
-FaultsAreReached = (body : List ℕ) (t : Rose ArrayData) (i : ℕ) (c : StreamFault) → Stands (cell body t i) c
+FaultsAreReached = (body : List ℕ) (t : Rose ArrayData) (i : ℕ) (c : StreamFault) → FailsWith (cell body t i) c
     → Found body t i c
 
-abbrev pub ReachedFaultsStand : Type 0
-ReachedFaultsStand = (body : List ℕ) (t : Rose ArrayData) (i : ℕ) (c : StreamFault) → Found body t i c
-    → Stands (cell body t i) c
+abbrev pub ReachedFaultsAreFound : Type 0
+ReachedFaultsAreFound = (body : List ℕ) (t : Rose ArrayData) (i : ℕ) (c : StreamFault) → Found body t i c
+    → FailsWith (cell body t i) c

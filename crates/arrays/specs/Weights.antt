@@ -24,7 +24,7 @@ use Rattle.values.specs.Rose.{Rose, node, Roses, none, more}
 use Rattle.values.specs.declared.layout.OffsetWidth.{OffsetWidth}
 use Rattle.values.specs.declared.layout.Layout.{Layout}
 use Rattle.values.specs.declared.layout.Layout.TheVariants.{Utf8, Binary, List as Listed, Struct}
-use Rattle.values.specs.Layouts.{slot, weight}
+use Rattle.values.specs.Layouts.{null_weight, weight}
 use Rattle.array_layout.specs.declared.array.DictionaryValues.{DictionaryValues}
 use Rattle.array_layout.specs.declared.array.ArrayData.{ArrayData}
 use Rattle.array_layout.specs.Placing.{bytes_of, layout_by, layouts_of}
@@ -53,7 +53,7 @@ weight_by l body p bare here beside i = bare
 -- A slot that stands for a value of a dictionary weighs what the value weighs.
 abbrev pub encoded_weight : Layout → Reading Datum → ℕ
 encoded_weight l (Ok d) = weight (node l none) d
-encoded_weight l (Err fs) = slot (node l none)
+encoded_weight l (Err fs) = null_weight (node l none)
 
 -- the value of a dictionary for which slot i of an array of indices stands
 abbrev pub indexed_weight : DictionaryValues → List ℕ → ArrayData → ℕ → ℕ
@@ -71,7 +71,7 @@ weight_in body p bare here beside i =
 abbrev mutual
   pub weight_at : List ℕ → Rose ArrayData → ℕ → ℕ
   weight_at body (node p kids) i =
-      weight_in body p (slot (node (layout_by p.dictionary p.layout) (layouts_of kids))) (λ j. first_weight body kids j)
+      weight_in body p (null_weight (node (layout_by p.dictionary p.layout) (layouts_of kids))) (λ j. first_weight body kids j)
       (λ j. weight_beside body kids j) i
 
   pub first_weight : List ℕ → Roses ArrayData → ℕ → ℕ
@@ -85,7 +85,7 @@ abbrev mutual
 -- a valid slot of an array of values that has these children
 abbrev pub value_weight : List ℕ → ArrayData → Roses ArrayData → ℕ → ℕ
 value_weight body p kids i =
-    weight_by p.layout body p (slot (node p.layout (layouts_of kids))) (λ j. first_weight body kids j)
+    weight_by p.layout body p (null_weight (node p.layout (layouts_of kids))) (λ j. first_weight body kids j)
     (λ j. weight_beside body kids j) i
 
 -- a valid list, by its items, which are slots of the first child

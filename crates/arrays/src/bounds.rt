@@ -7,7 +7,7 @@ ghost use Rattle.values.specs.Limits.{max_cell_weight};
 ghost use Rattle.values.specs.Rose.{node, none, kids_of};
 ghost use Rattle.values.specs.Datum.{null};
 ghost use Rattle.values.specs.declared.layout.Layout.TheVariants.{List as Listed, Struct};
-ghost use Rattle.values.specs.Layouts.{offset_bytes, slot, slots, weight};
+ghost use Rattle.values.specs.Layouts.{null_weight, null_weights, offset_bytes, weight};
 ghost use Rattle.array_layout.specs.Placing.{bytes_of, layout_of, layouts_of};
 ghost use Rattle.array_layout.specs.Sound.{LiesIn, IsSound, AreSound, AreLong};
 ghost use Rattle.array_layout.specs.Buffers.{offset_at};
@@ -25,7 +25,7 @@ ghost use Rattle.arrays.specs.Weights.{
 
 use crate::uniform::is_fixed;
 use crate::validate::items_array;
-use crate::weigh::{cap, slot_of, weigh_alike, weigh_encoded};
+use crate::weigh::{cap, null_weight_of, weigh_alike, weigh_encoded};
 use array_layout::{Array, ArrayData, DictionaryValues, buffer, offset};
 use values::{Layout, OffsetWidth};
 
@@ -68,11 +68,11 @@ fn extents_bound(body: &[u8], own: &ArrayData, width: OffsetWidth, weight: u64) 
 
 /// The weight of the heaviest value.
 fn heaviest_value(dictionary: &DictionaryValues) -> u64
-    ensures value { IsBound result (slot (node dictionary.now.layout none)) (length dictionary.now.values)
+    ensures value { IsBound result (null_weight (node dictionary.now.layout none)) (length dictionary.now.values)
         (λ k. weight (node dictionary.now.layout none) (get_or dictionary.now.values k null)) }
     ensures bound { result ≤ max_cell_weight + 1 }
 {
-    let mut most = cap(dictionary.layout.own_slot());
+    let mut most = cap(dictionary.layout.own_null_weight());
     for k in 0..dictionary.values.len() {
         let value = dictionary.values.get(k).unwrap();
         most = most.max(cap(dictionary.layout.own_weight(value)));
@@ -84,11 +84,11 @@ fn heaviest_value(dictionary: &DictionaryValues) -> u64
 fn heaviest_slot(body: &[u8], own: &ArrayData, dictionary: &DictionaryValues) -> u64
     requires lies { LiesIn body.now own.now.values }
     requires room { (i : ℕ) → i < own.now.len → HasIndex own.now.layout own.now i }
-    ensures value { IsBound result (slot (node dictionary.now.layout none)) own.now.len
+    ensures value { IsBound result (null_weight (node dictionary.now.layout none)) own.now.len
         (indexed_weight dictionary.now body.now own.now) }
     ensures bound { result ≤ max_cell_weight + 1 }
 {
-    let mut most = cap(dictionary.layout.own_slot());
+    let mut most = cap(dictionary.layout.own_null_weight());
     for i in 0..own.len {
         most = most.max(weigh_encoded(body, own, dictionary, i));
     }
@@ -100,12 +100,12 @@ fn heaviest_slot(body: &[u8], own: &ArrayData, dictionary: &DictionaryValues) ->
 fn encoded_bound(body: &[u8], own: &ArrayData, dictionary: &DictionaryValues) -> u64
     requires lies { LiesIn body.now own.now.values }
     requires room { (i : ℕ) → i < own.now.len → HasIndex own.now.layout own.now i }
-    ensures value { IsBound result (slot (node dictionary.now.layout none)) own.now.len
+    ensures value { IsBound result (null_weight (node dictionary.now.layout none)) own.now.len
         (indexed_weight dictionary.now body.now own.now) }
     ensures bound { result ≤ max_cell_weight + 1 }
 {
     if is_fixed(dictionary.layout) {
-        return cap(dictionary.layout.own_slot());
+        return cap(dictionary.layout.own_null_weight());
     }
     if dictionary.values.len() <= own.len {
         heaviest_value(dictionary)
@@ -118,7 +118,7 @@ fn encoded_bound(body: &[u8], own: &ArrayData, dictionary: &DictionaryValues) ->
 #[cycle(bound)]
 pub(crate) fn weight_bound(body: &[u8], array: &Array) -> u64
     requires { IsSound body.now array.now }
-    ensures value { IsBound result (slot (layout_of array.now)) (len_of array.now) (weight_at body.now array.now) }
+    ensures value { IsBound result (null_weight (layout_of array.now)) (len_of array.now) (weight_at body.now array.now) }
     ensures bound { result ≤ max_cell_weight + 1 }
 {
     own_bound(body, &array.own, &array.children)
@@ -128,13 +128,13 @@ pub(crate) fn weight_bound(body: &[u8], array: &Array) -> u64
 #[tactic(auto, using(crate::proofs::BoundLemmas::own_laws))]
 fn own_bound(body: &[u8], own: &ArrayData, children: &[Array]) -> u64
     requires { IsSound body.now (node own.now (kids_of children.now)) }
-    ensures value { IsBound result (slot (layout_of (node own.now (kids_of children.now)))) own.now.len
+    ensures value { IsBound result (null_weight (layout_of (node own.now (kids_of children.now)))) own.now.len
         (weight_at body.now (node own.now (kids_of children.now))) }
     ensures bound { result ≤ max_cell_weight + 1 }
 {
     match &own.dictionary {
         Some(dictionary) => {
-            let null = slot_of(dictionary.layout, children);
+            let null = null_weight_of(dictionary.layout, children);
             null.max(encoded_bound(body, own, dictionary))
         }
         None => value_bound(body, own, children),
@@ -146,7 +146,7 @@ fn own_bound(body: &[u8], own: &ArrayData, children: &[Array]) -> u64
 #[tactic(auto, using(crate::proofs::BoundLemmas::value_laws))]
 fn value_bound(body: &[u8], own: &ArrayData, children: &[Array]) -> u64
     requires { IsSound body.now (node own.now (kids_of children.now)) }
-    ensures value { IsBound result (slot (node own.now.layout (layouts_of (kids_of children.now)))) own.now.len
+    ensures value { IsBound result (null_weight (node own.now.layout (layouts_of (kids_of children.now)))) own.now.len
         (λ i. value_weight body.now own.now (kids_of children.now) i) }
     ensures bound { result ≤ max_cell_weight + 1 }
 {
@@ -154,7 +154,7 @@ fn value_bound(body: &[u8], own: &ArrayData, children: &[Array]) -> u64
         Layout::Bool
         | Layout::Int { .. }
         | Layout::Decimal { .. }
-        | Layout::FixedSizeBinary { .. } => slot_of(own.layout, children),
+        | Layout::FixedSizeBinary { .. } => null_weight_of(own.layout, children),
         Layout::Utf8 { offsets } | Layout::Binary { offsets } => extents_bound(
             body, own, offsets, 1,
         ),
@@ -182,7 +182,7 @@ fn list_bound(body: &[u8], own: &ArrayData, children: &[Array], width: OffsetWid
 fn row_bound(body: &[u8], children: &[Array], count: usize) -> u64
     requires sound { AreSound body.now (kids_of children.now) }
     requires long { AreLong Struct count (kids_of children.now) }
-    ensures value { IsBound result (1 + slots (layouts_of (kids_of children.now))) count
+    ensures value { IsBound result (1 + null_weights (layouts_of (kids_of children.now))) count
         (λ i. 1 + weight_beside body.now (kids_of children.now) i) }
     ensures bound { result ≤ max_cell_weight + 1 }
 {

@@ -1,7 +1,7 @@
 //! Laws of the definitions: each is the contract of a function that does nothing.
 
 ghost use Rattle.arrays.specs.Laws.{WeighsAsRead};
-ghost use Rattle.arrays.specs.Reached.{FaultsAreReached, ReachedFaultsStand};
+ghost use Rattle.arrays.specs.Reached.{FaultsAreReached, ReachedFaultsAreFound};
 
 /// The weight that is counted of a cell where it lies is that of its value.
 #[tactic(auto, using(crate::proofs::WeightLaw::weights))]
@@ -13,5 +13,5 @@ pub fn weight_law()
 #[tactic(auto, using(crate::proofs::ReachLemmas::reaching))]
 pub fn reached_law()
     ensures found { FaultsAreReached }
-    ensures stands { ReachedFaultsStand }
+    ensures stands { ReachedFaultsAreFound }
 {}

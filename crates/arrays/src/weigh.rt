@@ -4,7 +4,7 @@ ghost use Rattle.std.specs.Prelude.{◌≡◌, ◌+◌, ◌-◌, ◌*◌, ◌<�
 ghost use Rattle.values.specs.Limits.{max_cell_weight};
 ghost use Rattle.values.specs.Rose.{node, kids_of};
 ghost use Rattle.values.specs.declared.layout.Layout.TheVariants.{List as Listed, Struct};
-ghost use Rattle.values.specs.Layouts.{slot, slots, weight};
+ghost use Rattle.values.specs.Layouts.{null_weight, null_weights, weight};
 ghost use Rattle.array_layout.specs.Placing.{bytes_of, layout_by, layout_of, layouts_of};
 ghost use Rattle.array_layout.specs.Sound.{LiesIn, AreFit, IsSound, AreSound, AreLong};
 ghost use Rattle.array_layout.specs.Cells.{coded_by, len_of};
@@ -54,35 +54,35 @@ fn value_layout(own: &ArrayData) -> Layout
 }
 
 /// The weight of a null.
-#[cycle(slot)]
-fn slot(array: &Array) -> u64
-    ensures value { result ≡ capped (slot (layout_of array.now)) }
+#[cycle(null_weight)]
+fn null_weight(array: &Array) -> u64
+    ensures value { result ≡ capped (null_weight (layout_of array.now)) }
     ensures bound { result ≤ max_cell_weight + 1 }
 {
-    slot_of(value_layout(&array.own), &array.children)
+    null_weight_of(value_layout(&array.own), &array.children)
 }
 
-#[cycle(slot)]
+#[cycle(null_weight)]
 #[tactic(auto, using(crate::proofs::WeightLemmas::own_laws))]
-pub(crate) fn slot_of(layout: Layout, children: &[Array]) -> u64
-    ensures value { result ≡ capped (slot (node layout (layouts_of (kids_of children.now)))) }
+pub(crate) fn null_weight_of(layout: Layout, children: &[Array]) -> u64
+    ensures value { result ≡ capped (null_weight (node layout (layouts_of (kids_of children.now)))) }
     ensures bound { result ≤ max_cell_weight + 1 }
 {
     match layout {
-        Layout::Struct => slots(children),
-        _ => cap(layout.own_slot()),
+        Layout::Struct => null_weights(children),
+        _ => cap(layout.own_null_weight()),
     }
 }
 
-#[cycle(slot)]
+#[cycle(null_weight)]
 #[tactic(auto, using(crate::proofs::WeightLemmas::slot_laws))]
-fn slots(children: &[Array]) -> u64
-    ensures value { result ≡ capped (1 + slots (layouts_of (kids_of children.now))) }
+fn null_weights(children: &[Array]) -> u64
+    ensures value { result ≡ capped (1 + null_weights (layouts_of (kids_of children.now))) }
     ensures bound { result ≤ max_cell_weight + 1 }
 {
     let mut sum = cap(1);
     for child in children {
-        sum = cap(sum + slot(child));
+        sum = cap(sum + null_weight(child));
     }
     sum
 }
@@ -104,7 +104,7 @@ pub(crate) fn weigh_encoded(
 {
     match find_value(body, own, dictionary, i) {
         Some(value) => cap(dictionary.layout.own_weight(value)),
-        None => cap(dictionary.layout.own_slot()),
+        None => cap(dictionary.layout.own_null_weight()),
     }
 }
 
@@ -128,7 +128,7 @@ fn weigh_slot(body: &[u8], own: &ArrayData, children: &[Array], i: usize) -> u64
     ensures bound { result ≤ max_cell_weight + 1 }
 {
     if is_null_slot(body, own, i) {
-        return slot_of(value_layout(own), children);
+        return null_weight_of(value_layout(own), children);
     }
     match &own.dictionary {
         Some(dictionary) => weigh_encoded(body, own, dictionary, i),
@@ -149,7 +149,7 @@ fn weigh_value(body: &[u8], own: &ArrayData, children: &[Array], i: usize) -> u6
         Layout::Bool
         | Layout::Int { .. }
         | Layout::Decimal { .. }
-        | Layout::FixedSizeBinary { .. } => slot_of(own.layout, children),
+        | Layout::FixedSizeBinary { .. } => null_weight_of(own.layout, children),
         Layout::Utf8 { offsets } | Layout::Binary { offsets } => weigh_bytes(body, own, offsets, i),
         Layout::List { offsets } => weigh_list(body, own, children, offsets, i),
         Layout::Struct => weigh_row(body, children, i),
@@ -206,7 +206,7 @@ fn weigh_items(body: &[u8], array: &Array, from: usize, to: usize) -> u64
     ensures bound { result ≤ max_cell_weight + 1 }
 {
     if to - from > 1 && is_uniform(array) {
-        return weigh_alike(slot(array), to - from);
+        return weigh_alike(null_weight(array), to - from);
     }
     let mut sum = cap(5);
     for i in from..to {

@@ -76,14 +76,14 @@ lengths-at f (c ∷ cs) zero h = refl
 lengths-at f (c ∷ cs) (suc i) h = lengths-at f cs i (omega (arith, h))
 
 -- piece i, and what comes after it
-pub piece-at :
+pub segment-at :
     {A : Type 0} (f : Datum → List A) (cs : List Datum) (i : ℕ) → i < length cs
     → (rest : List A) × (drop (start i (lengths f cs)) (flat_map f cs) ≡ f (get_or cs i null) ++ rest)
 unfolding start
-piece-at f [] i h = absurd (omega (arith, h))
-piece-at f (c ∷ cs) zero h = (flat_map f cs, refl)
-piece-at f (c ∷ cs) (suc i) h =
-    let others = piece-at f cs i (omega (arith, h)) in (
+segment-at f [] i h = absurd (omega (arith, h))
+segment-at f (c ∷ cs) zero h = (flat_map f cs, refl)
+segment-at f (c ∷ cs) (suc i) h =
+    let others = segment-at f cs i (omega (arith, h)) in (
       others.0,
       sym (drop-drop (start i (lengths f cs)) (length (f c)) (f c ++ flat_map f cs))
           ∙ ap (drop (start i (lengths f cs))) (drop_at (f c) (flat_map f cs) (length (f c)) refl) ∙ others.1,
@@ -109,7 +109,7 @@ pub even-at :
     {A : Type 0} (f : Datum → List A) (w : ℕ) (cs : List Datum) (i : ℕ) → i < length cs → HaveWidth f w cs
     → (rest : List A) × (drop (w * i) (flat_map f cs) ≡ f (get_or cs i null) ++ rest)
 even-at f w cs i h even =
-    let p = piece-at f cs i h in
+    let p = segment-at f cs i h in
     (p.0, ap (λ n. drop n (flat_map f cs)) (sym (start-even f w cs i (omega (arith, h)) even)) ∙ p.1)
 
 pub length-even : {A : Type 0} (f : Datum → List A) (w : ℕ) (cs : List Datum) → HaveWidth f w cs

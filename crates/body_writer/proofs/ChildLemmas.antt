@@ -61,13 +61,13 @@ use Rattle.arrays.proofs.ValidationLemmas.{at_least, and_rest}
 use Rattle.body_writer.specs.Slots.{items_in, part}
 use Rattle.body_writer.proofs.Cells.{listed-items_of}
 use Rattle.body_writer.specs.Runs.{cell_in, slots, AreAlike}
-use Rattle.body_writer.specs.declared.from_columns.piece.SlotRange.{SlotRange}
-use Rattle.body_writer.specs.Pieces.{HasChild, piece_cells, pieces_cells, with_offsets}
+use Rattle.body_writer.specs.declared.from_columns.segment.SlotRange.{SlotRange}
+use Rattle.body_writer.specs.Segments.{HasChild, segment_cells, segments_cells, with_offsets}
 use Rattle.body_writer.proofs.RunLemmas.{slots-split, null-cell, rises-far, flat-append}
-use Rattle.body_writer.proofs.PieceLemmas.{pieces-split, pieces-none}
+use Rattle.body_writer.proofs.SegmentLemmas.{segments-split, segments-none}
 use Rattle.std.proofs.lemmas.List.{map-append}
 use Rattle.body_writer.specs.Columns.{items, child_cells}
-use Rattle.body_writer.specs.declared.from_columns.piece.Piece.{Piece}
+use Rattle.body_writer.specs.declared.from_columns.segment.Segment.{Segment}
 use Rattle.body_writer.proofs.SlotLemmas.{AllValid, plain-cell}
 use Rattle.body_writer.proofs.ByteLemmas.{list-fit-of}
 use Rattle.body_writer.proofs.NullLemmas.{nulls-map}
@@ -477,21 +477,21 @@ child-none (Listed o) j = refl
 child-none Struct j = refl
 
 pub child-step :
-    (l : Layout) (j : ℕ) (ps : List Piece) (i : ℕ) (p : Piece) (made next total : List Datum) → i < length ps
+    (l : Layout) (j : ℕ) (ps : List Segment) (i : ℕ) (p : Segment) (made next total : List Datum) → i < length ps
     → p ≡ get_or ps i p
-    → next ≡ made ++ child_cells l j (piece_cells p) → made ++ child_cells l j (pieces_cells (drop i ps)) ≡ total
-    → next ++ child_cells l j (pieces_cells (drop (i + 1) ps)) ≡ total
+    → next ≡ made ++ child_cells l j (segment_cells p) → made ++ child_cells l j (segments_cells (drop i ps)) ≡ total
+    → next ++ child_cells l j (segments_cells (drop (i + 1) ps)) ≡ total
 child-step l j ps i p made next total h e n is =
-    let rest = pieces_cells (drop (i + 1) ps) in
-    ap (λ xs. xs ++ child_cells l j rest) n ∙ append_assoc made (child_cells l j (piece_cells p)) (child_cells l j rest)
-    ∙ ap (λ xs. made ++ xs) (sym (child-append l j (piece_cells p) rest))
-    ∙ ap (λ cs. made ++ child_cells l j cs) (sym (pieces-split ps i p h e)) ∙ is
+    let rest = segments_cells (drop (i + 1) ps) in
+    ap (λ xs. xs ++ child_cells l j rest) n ∙ append_assoc made (child_cells l j (segment_cells p)) (child_cells l j rest)
+    ∙ ap (λ xs. made ++ xs) (sym (child-append l j (segment_cells p) rest))
+    ∙ ap (λ cs. made ++ child_cells l j cs) (sym (segments-split ps i p h e)) ∙ is
 
-pub child-over : (l : Layout) (j : ℕ) (ps : List Piece) (i : ℕ) (made total : List Datum) → length ps ≤ i
-    → made ++ child_cells l j (pieces_cells (drop i ps)) ≡ total → made ≡ total
+pub child-over : (l : Layout) (j : ℕ) (ps : List Segment) (i : ℕ) (made total : List Datum) → length ps ≤ i
+    → made ++ child_cells l j (segments_cells (drop i ps)) ≡ total → made ≡ total
 child-over l j ps i made total h is =
     sym (append-nil made) ∙ ap (λ xs. made ++ xs) (sym (child-none l j))
-    ∙ ap (λ cs. made ++ child_cells l j cs) (sym (pieces-none ps i h)) ∙ is
+    ∙ ap (λ cs. made ++ child_cells l j cs) (sym (segments-none ps i h)) ∙ is
 
 -- a list's child is its first
 pub first-only : (l : Layout) (o : OffsetWidth) (j : ℕ) (r : SlotRange) → HasChild l j r → l ≡ Listed o → 0 ≡ j

@@ -76,7 +76,7 @@ use Rattle.body_writer.specs.Columns.{
   nodes_below,
 }
 use Rattle.values.specs.Weights.{weights}
-use Rattle.body_writer.specs.Law.{AreRead, BatchLaw, AreNodes, Stand, ColumnLaw, PlacedLaw, NodesLaw, BuffersLaw}
+use Rattle.body_writer.specs.Law.{AreRead, BatchLaw, AreNodes, HoldBuffers, ColumnLaw, PlacedLaw, NodesLaw, BuffersLaw}
 use Rattle.body_writer.proofs.CellBytes.{each-run}
 use Rattle.body_writer.proofs.Held.{from_item, item-at, items-after, HeldEach, kids-held}
 use Rattle.body_writer.proofs.WeightLemmas.{
@@ -140,20 +140,20 @@ mutual
 
 -- some of the nodes and buffers that stand
 
-pub Stand-front : (body : List ℕ) (ranges : List BufferRange) (b : ℕ) (xs ys : List (List ℕ))
-    → Stand body ranges b (xs ++ ys) → Stand body ranges b xs
-Stand-front body ranges b [] ys st = tt
-Stand-front body ranges b (x ∷ xs) ys st = (st.0, st.1, Stand-front body ranges (suc b) xs ys st.2)
+pub HoldBuffers-front : (body : List ℕ) (ranges : List BufferRange) (b : ℕ) (xs ys : List (List ℕ))
+    → HoldBuffers body ranges b (xs ++ ys) → HoldBuffers body ranges b xs
+HoldBuffers-front body ranges b [] ys st = tt
+HoldBuffers-front body ranges b (x ∷ xs) ys st = (st.0, st.1, HoldBuffers-front body ranges (suc b) xs ys st.2)
 
-pub Stand-back : (body : List ℕ) (ranges : List BufferRange) (b k : ℕ) (xs ys : List (List ℕ)) → length xs ≡ k
-    → Stand body ranges b (xs ++ ys) → Stand body ranges (b + k) ys
-Stand-back body ranges b k [] ys e st =
+pub HoldBuffers-back : (body : List ℕ) (ranges : List BufferRange) (b k : ℕ) (xs ys : List (List ℕ)) → length xs ≡ k
+    → HoldBuffers body ranges b (xs ++ ys) → HoldBuffers body ranges (b + k) ys
+HoldBuffers-back body ranges b k [] ys e st =
     let same : b ≡ b + k = omega (arith, e) in
-    subst (λ (m : ℕ). Stand body ranges m ys) same st
-Stand-back body ranges b k (x ∷ xs) ys e st =
-    let rest = Stand-back body ranges (suc b) (length xs) xs ys refl st.2 in
+    subst (λ (m : ℕ). HoldBuffers body ranges m ys) same st
+HoldBuffers-back body ranges b k (x ∷ xs) ys e st =
+    let rest = HoldBuffers-back body ranges (suc b) (length xs) xs ys refl st.2 in
     let same : suc b + length xs ≡ b + k = omega (arith, e) in
-    subst (λ (m : ℕ). Stand body ranges m ys) same rest
+    subst (λ (m : ℕ). HoldBuffers body ranges m ys) same rest
 
 pub AreNodes-front : (all : List FieldNode) (n : ℕ) (xs ys : List FieldNode) → AreNodes all n (xs ++ ys)
     → AreNodes all n xs
@@ -295,7 +295,7 @@ nowhere-lies : (body : List ℕ) → 0 + 0 ≤ length body
 nowhere-lies body = omega arith
 
 offsets-lie : (l : Layout) (cs : List Datum) (body : List ℕ) (ranges : List BufferRange) (b : ℕ)
-    → Stand body ranges b (own_buffers l cs) → LiesIn body (offsets_at l ranges b)
+    → HoldBuffers body ranges b (own_buffers l cs) → LiesIn body (offsets_at l ranges b)
 offsets-lie (Utf8 o) cs body ranges b st =
     (second-here body ranges b (validity cs) (offsets o cs) (joined cs ∷ []) st).0
 offsets-lie (Binary o) cs body ranges b st =
@@ -304,7 +304,7 @@ offsets-lie (Listed o) cs body ranges b st = (second-here body ranges b (validit
 offsets-lie l cs body ranges b st = nowhere-lies body
 
 values-lie : (l : Layout) (cs : List Datum) (body : List ℕ) (ranges : List BufferRange) (b : ℕ)
-    → Stand body ranges b (own_buffers l cs) → LiesIn body (values_at l ranges b)
+    → HoldBuffers body ranges b (own_buffers l cs) → LiesIn body (values_at l ranges b)
 values-lie Booleans cs body ranges b st = (second-here body ranges b (validity cs) (truths cs) [] st).0
 values-lie (Int w s) cs body ranges b st = (second-here body ranges b (validity cs) (numbers _ cs) [] st).0
 values-lie (Decimal p) cs body ranges b st = (second-here body ranges b (validity cs) (numbers 16 cs) [] st).0
@@ -330,7 +330,7 @@ own-read :
     (body : List ℕ) (all : List FieldNode) (ranges : List BufferRange) (n b : ℕ) (l : Layout) (kids : Roses Layout)
     (cs : List Datum) → IsNode l kids
     → All (Holds (node l kids)) cs → own_weights l cs + weights_each l 0 kids cs < 2 ^ 31 → node_at all n ≡ own_node cs
-    → Stand body ranges b (own_buffers l cs) → EachRead body all ranges (n + 1) (b + own_ranges l) l 0 kids cs
+    → HoldBuffers body ranges b (own_buffers l cs) → EachRead body all ranges (n + 1) (b + own_ranges l) l 0 kids cs
     → IsRead body all ranges n b (node l kids) cs
 own-read body all ranges n b l kids cs is held light saturated st r =
     let parts = placed_all all ranges (n + 1) (b + own_ranges l) kids in
@@ -368,32 +368,32 @@ mutual
   column-read :
       (t : Rose Layout) (cs : List Datum) (body : List ℕ) (all : List FieldNode) (ranges : List BufferRange) (n b : ℕ)
       → IsLayout t → All (Holds t) cs
-      → weights t cs < 2 ^ 31 → AreNodes all n (nodes t cs) → Stand body ranges b (buffers t cs)
+      → weights t cs < 2 ^ 31 → AreNodes all n (nodes t cs) → HoldBuffers body ranges b (buffers t cs)
       → IsRead body all ranges n b t cs
   column-read (node l kids) cs body all ranges n b is held light an st =
       let split = weights-split l kids cs is.0 held in
       let next : suc n ≡ n + 1 = omega arith in
       own-read body all ranges n b l kids cs is.0 held (omega (arith, light, split)) an.0
-      (Stand-front body ranges b (own_buffers l cs) (buffers_below l 0 kids cs) st)
+      (HoldBuffers-front body ranges b (own_buffers l cs) (buffers_below l 0 kids cs) st)
       (each-read l 0 kids cs body all ranges (n + 1) (b + own_ranges l) is.1 (kids-held l kids cs is.0 held)
       (omega (arith, light, split))
       (subst (λ (m : ℕ). AreNodes all m (nodes_below l 0 kids cs)) next an.1)
-      (Stand-back body ranges b (own_ranges l) (own_buffers l cs) (buffers_below l 0 kids cs) (own-count l cs) st))
+      (HoldBuffers-back body ranges b (own_ranges l) (own_buffers l cs) (buffers_below l 0 kids cs) (own-count l cs) st))
 
   each-read :
       (l : Layout) (j : ℕ) (ts : Roses Layout) (cs : List Datum) (body : List ℕ) (all : List FieldNode)
       (ranges : List BufferRange) (n b : ℕ)
       → AreLayouts ts → HeldEach l j ts cs → weights_each l j ts cs < 2 ^ 31 → AreNodes all n (nodes_below l j ts cs)
-      → Stand body ranges b (buffers_below l j ts cs) → EachRead body all ranges n b l j ts cs
+      → HoldBuffers body ranges b (buffers_below l j ts cs) → EachRead body all ranges n b l j ts cs
   each-read l j none cs body all ranges n b is held light an st = tt
   each-read l j (more t ts) cs body all ranges n b is held light an st =
       let mine = child_cells l j cs in (
         column-read t mine body all ranges n b is.0 held.0 (omega (arith, light))
             (AreNodes-front all n (nodes t mine) (nodes_below l (suc j) ts cs) an)
-            (Stand-front body ranges b (buffers t mine) (buffers_below l (suc j) ts cs) st),
+            (HoldBuffers-front body ranges b (buffers t mine) (buffers_below l (suc j) ts cs) st),
         each-read l (suc j) ts cs body all ranges (n + rose_size t) (b + ranges_in t) is.1 held.1 (omega (arith, light))
             (AreNodes-back all n (rose_size t) (nodes t mine) (nodes_below l (suc j) ts cs) (nodes-count t mine) an)
-            (Stand-back body ranges b (ranges_in t) (buffers t mine) (buffers_below l (suc j) ts cs)
+            (HoldBuffers-back body ranges b (ranges_in t) (buffers t mine) (buffers_below l (suc j) ts cs)
             (buffers-count t mine) st),
       )
 

@@ -56,8 +56,8 @@ use Rattle.array_layout.specs.Cells.{cell, cell_by, slot_by, coded_by, indexed, 
 use Rattle.body_writer.specs.Slots.{cell_of, cells_of}
 use Rattle.body_writer.specs.Runs.{cell_in, slots}
 use Rattle.arrays.proofs.DictionaryLemmas.{index_rooms}
-use Rattle.body_writer.specs.declared.from_columns.piece.SlotRange.{SlotRange}
-use Rattle.body_writer.specs.Pieces.{IsIndexed}
+use Rattle.body_writer.specs.declared.from_columns.segment.SlotRange.{SlotRange}
+use Rattle.body_writer.specs.Segments.{IsIndexed}
 use Rattle.body_writer.proofs.RunLemmas.{null-cell}
 use Rattle.body_writer.proofs.BitLemmas.{slots-next, slots-none}
 use Rattle.arrays.proofs.IndexLemmas.{low-half, high-half, numbers-room}

@@ -64,20 +64,20 @@ use Rattle.array_layout.specs.Buffers.{fixed_at, is_null, slice_at}
 use Rattle.array_layout.specs.Cells.{cell, value_by, first_cell, row, text_of}
 use Rattle.body_writer.specs.Slots.{is_valid, truth_in}
 use Rattle.body_writer.specs.Runs.{HasBytes, cell_in, slot_bytes, slot_width, slots}
-use Rattle.body_writer.specs.Pieces.{array_of, with_offsets}
+use Rattle.body_writer.specs.Segments.{array_of, with_offsets}
 use Rattle.body_writer.specs.Texts.{as_bytes}
-use Rattle.body_writer.specs.Places.{
+use Rattle.body_writer.specs.Locations.{
   Fits,
   HasText,
   IsPlain,
   IsSlot,
   IsTexts,
   array_cell,
-  place_cell,
-  place_cells,
+  located_cell,
+  located_cells,
 }
-use Rattle.body_writer.specs.declared.from_places.plain.PlainArray.{PlainArray}
-use Rattle.body_writer.specs.declared.from_places.place.RowPlace.{RowPlace}
+use Rattle.body_writer.specs.declared.from_locations.plain.PlainArray.{PlainArray}
+use Rattle.body_writer.specs.declared.from_locations.location.RowLocation.{RowLocation}
 use Rattle.body_writer.proofs.RunLemmas.{null-cell}
 use Rattle.body_writer.proofs.SlotLemmas.{plain-cell, slot-null, slots-room, slots-valid}
 use Rattle.body_writer.proofs.BitLemmas.{cell-set, cell-truth}
@@ -250,50 +250,50 @@ bytes-between xs from to small = bytes-taken (to - from) (drop from xs) (bytes-l
 
 -- place after place
 
-pub fits-at : (l : Layout) (xs : List (Option PlainArray)) (ps : List RowPlace) (i : ℕ) (p : RowPlace)
+pub fits-at : (l : Layout) (xs : List (Option PlainArray)) (ps : List RowLocation) (i : ℕ) (p : RowLocation)
     → All (Fits l xs) ps → i < length ps → p ≡ get_or ps i p → Fits l xs p
 fits-at l xs ps i p all h e = subst (Fits l xs) (sym e) (All-get_or (Fits l xs) ps i p h all)
 
-pub cells-next : (xs : List (Option PlainArray)) (ps : List RowPlace) (i : ℕ) (p : RowPlace) → i < length ps
+pub cells-next : (xs : List (Option PlainArray)) (ps : List RowLocation) (i : ℕ) (p : RowLocation) → i < length ps
     → p ≡ get_or ps i p
-    → place_cells xs (drop i ps) ≡ place_cell xs p ∷ place_cells xs (drop (i + 1) ps)
+    → located_cells xs (drop i ps) ≡ located_cell xs p ∷ located_cells xs (drop (i + 1) ps)
 cells-next xs ps i p h e =
-    ap (place_cells xs) (drop_more ps i p h) ∙ ap (λ q. place_cell xs q ∷ place_cells xs (drop (i + 1) ps)) (sym e)
+    ap (located_cells xs) (drop_more ps i p h) ∙ ap (λ q. located_cell xs q ∷ located_cells xs (drop (i + 1) ps)) (sym e)
 
-pub cells-end : (xs : List (Option PlainArray)) (ps : List RowPlace) (i : ℕ) → length ps ≤ i
-    → place_cells xs (drop i ps) ≡ []
-cells-end xs ps i h = ap (place_cells xs) (drop_all i ps h)
+pub cells-end : (xs : List (Option PlainArray)) (ps : List RowLocation) (i : ℕ) → length ps ≤ i
+    → located_cells xs (drop i ps) ≡ []
+cells-end xs ps i h = ap (located_cells xs) (drop_all i ps h)
 
-pub fits-item : (l : Layout) (xs : List (Option PlainArray)) (ps : List RowPlace) (i : ℕ) (p : RowPlace)
+pub fits-item : (l : Layout) (xs : List (Option PlainArray)) (ps : List RowLocation) (i : ℕ) (p : RowLocation)
     → All (Fits l xs) ps → i < length ps → Fits l xs (get_or ps i p)
 fits-item l xs ps i p all h = All-get_or (Fits l xs) ps i p h all
 
-pub flat-next : (f : Datum → List ℕ) (xs : List (Option PlainArray)) (ps : List RowPlace) (i : ℕ) (p : RowPlace)
-    (made next total : List ℕ) → i < length ps → next ≡ made ++ f (place_cell xs (get_or ps i p))
-    → made ++ flat_map f (place_cells xs (drop i ps)) ≡ total
-    → next ++ flat_map f (place_cells xs (drop (i + 1) ps)) ≡ total
+pub flat-next : (f : Datum → List ℕ) (xs : List (Option PlainArray)) (ps : List RowLocation) (i : ℕ) (p : RowLocation)
+    (made next total : List ℕ) → i < length ps → next ≡ made ++ f (located_cell xs (get_or ps i p))
+    → made ++ flat_map f (located_cells xs (drop i ps)) ≡ total
+    → next ++ flat_map f (located_cells xs (drop (i + 1) ps)) ≡ total
 flat-next f xs ps i p made next total h n is =
-    let rest = flat_map f (place_cells xs (drop (i + 1) ps)) in
-    ap (λ bs. bs ++ rest) n ∙ append_assoc made (f (place_cell xs (get_or ps i p))) rest
-    ∙ ap (λ qs. made ++ flat_map f (place_cells xs qs)) (sym (drop_more ps i p h)) ∙ is
+    let rest = flat_map f (located_cells xs (drop (i + 1) ps)) in
+    ap (λ bs. bs ++ rest) n ∙ append_assoc made (f (located_cell xs (get_or ps i p))) rest
+    ∙ ap (λ qs. made ++ flat_map f (located_cells xs qs)) (sym (drop_more ps i p h)) ∙ is
 
-pub maps-end : {A : Type 0} (f : Datum → A) (xs : List (Option PlainArray)) (ps : List RowPlace) (i : ℕ)
-    (made total : List A) → length ps ≤ i → made ++ map f (place_cells xs (drop i ps)) ≡ total → made ≡ total
+pub maps-end : {A : Type 0} (f : Datum → A) (xs : List (Option PlainArray)) (ps : List RowLocation) (i : ℕ)
+    (made total : List A) → length ps ≤ i → made ++ map f (located_cells xs (drop i ps)) ≡ total → made ≡ total
 maps-end f xs ps i made total h is =
     sym (append-nil made) ∙ ap (λ ds. made ++ map f ds) (sym (cells-end xs ps i h)) ∙ is
 
 -- as many are made as places were passed
-pub maps-few : {A : Type 0} (f : Datum → A) (xs : List (Option PlainArray)) (ps : List RowPlace) (i : ℕ)
-    (made : List A) → i < length ps → made ++ map f (place_cells xs (drop i ps)) ≡ map f (place_cells xs ps)
+pub maps-few : {A : Type 0} (f : Datum → A) (xs : List (Option PlainArray)) (ps : List RowLocation) (i : ℕ)
+    (made : List A) → i < length ps → made ++ map f (located_cells xs (drop i ps)) ≡ map f (located_cells xs ps)
     → length made < length ps
 maps-few f xs ps i made h is =
     let both = ap length is in
-    let split = length-append made (map f (place_cells xs (drop i ps))) in
-    let rest = length-map (place_cells xs (drop i ps)) f in
-    let after = length-map (drop i ps) (place_cell xs) in
+    let split = length-append made (map f (located_cells xs (drop i ps))) in
+    let rest = length-map (located_cells xs (drop i ps)) f in
+    let after = length-map (drop i ps) (located_cell xs) in
     let left = length-drop i ps in
-    let all = length-map (place_cells xs ps) f in
-    let many = length-map ps (place_cell xs) in
+    let all = length-map (located_cells xs ps) f in
+    let many = length-map ps (located_cell xs) in
     omega (arith, both, split, rest, after, left, all, many, h)
 
 pub ruleset steps = (cells-next, length-map)

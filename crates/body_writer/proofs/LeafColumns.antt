@@ -12,10 +12,10 @@ use Rattle.values.specs.declared.layout.Layout.TheVariants.{Bool as Booleans, In
 use Rattle.body_writer.specs.Columns.{buffers, fixed, nodes, numbers, own_buffers, own_node, validity}
 use Rattle.body_writer.specs.Grows.{Grows}
 use Rattle.body_writer.specs.Runs.{slot_bytes}
-use Rattle.body_writer.specs.Places.{Fits, layout_of, place_cell, place_cells}
+use Rattle.body_writer.specs.Locations.{Fits, layout_of, located_cell, located_cells}
 use Rattle.body_writer.specs.declared.body.Body.{Body}
-use Rattle.body_writer.specs.declared.from_places.plain.PlainArray.{PlainArray}
-use Rattle.body_writer.specs.declared.from_places.place.RowPlace.{RowPlace}
+use Rattle.body_writer.specs.declared.from_locations.plain.PlainArray.{PlainArray}
+use Rattle.body_writer.specs.declared.from_locations.location.RowLocation.{RowLocation}
 use Rattle.body_writer.proofs.WeightLemmas.{weights-long}
 
 -- a layout of slots of a fixed width in bytes
@@ -71,12 +71,12 @@ bits-column t l kids ds old new e is known grows =
 
 -- the arrays of a column of this layout
 pub fit-as : (t : Rose Layout) (l k : Layout) (kids : Roses Layout) (xs : List (Option PlainArray))
-    (ps : List RowPlace) → node l kids ≡ t → l ≡ k → All (Fits (layout_of t) xs) ps → All (Fits k xs) ps
+    (ps : List RowLocation) → node l kids ≡ t → l ≡ k → All (Fits (layout_of t) xs) ps → All (Fits k xs) ps
 fit-as t l k kids xs ps e is all = subst (λ y. All (Fits y xs) ps) (sym (ap layout_of e) ∙ is) all
 
-pub places-few : (t : Rose Layout) (xs : List (Option PlainArray)) (ps : List RowPlace)
-    → weights t (place_cells xs ps) < 2 ^ 31 → length ps < 2 ^ 31
-places-few t xs ps light =
-    let long = weights-long t (place_cells xs ps) in
-    let many = length-map ps (place_cell xs) in
+pub locations-few : (t : Rose Layout) (xs : List (Option PlainArray)) (ps : List RowLocation)
+    → weights t (located_cells xs ps) < 2 ^ 31 → length ps < 2 ^ 31
+locations-few t xs ps light =
+    let long = weights-long t (located_cells xs ps) in
+    let many = length-map ps (located_cell xs) in
     omega (arith, long, many, light)

@@ -9,6 +9,7 @@ pub mod Held
 pub mod WeightLemmas
 pub mod OwnRead
 pub mod ColumnRead
+pub mod RowsReadBack
 pub mod Ahead
 pub mod PlaceLemmas
 pub mod SizeLemmas
@@ -23,13 +24,13 @@ pub mod RangeBits
 pub mod NullLemmas
 pub mod LieLemmas
 pub mod ChildLemmas
-pub mod PieceLemmas
+pub mod SegmentLemmas
 pub mod RowRangeLemmas
 pub mod EncodedLemmas
 pub mod TextLemmas
 pub mod PickedLemmas
 pub mod GatheredCells
-pub mod PlacedColumns
+pub mod LocatedColumns
 pub mod LeafColumns
 pub mod WeighedRows
 pub mod BoundedRows

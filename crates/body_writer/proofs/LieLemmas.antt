@@ -25,10 +25,10 @@ use Rattle.std.proofs.lemmas.List.Elements.{All-weaker}
 use Rattle.values.specs.Rose.{Rose, node, Roses, kids_of}
 use Rattle.values.specs.declared.layout.Layout.{Layout}
 use Rattle.array_layout.specs.declared.array.ArrayData.{ArrayData}
-use Rattle.body_writer.specs.declared.from_columns.piece.Piece.{Piece}
-use Rattle.body_writer.specs.declared.from_columns.piece.Piece.TheVariants.{Slots, Nulls}
-use Rattle.body_writer.specs.declared.from_columns.piece.SlotRange.{SlotRange}
-use Rattle.body_writer.specs.Pieces.{with_offsets, HasDictionary, IsAlike, Lies, AllLie, RangeLies, LiesAs, LiesBelow, IsChecked, IsEncoded, HasLayout, HasChild, OfSlots, ChildLies}
+use Rattle.body_writer.specs.declared.from_columns.segment.Segment.{Segment}
+use Rattle.body_writer.specs.declared.from_columns.segment.Segment.TheVariants.{Slots, Nulls}
+use Rattle.body_writer.specs.declared.from_columns.segment.SlotRange.{SlotRange}
+use Rattle.body_writer.specs.Segments.{with_offsets, HasDictionary, IsAlike, Lies, AllLie, RangeLies, LiesAs, LiesBelow, IsChecked, IsEncoded, HasLayout, HasChild, OfSlots, ChildLies}
 
 -- two arrays, both with a dictionary or both without
 
@@ -56,15 +56,15 @@ range-encoded (node l kids) m models has r lies = record {
   encoded = both-encoded l kids m r.parts.own.now models (kids_of r.parts.children.now) has lies.lies;
 }
 
-piece-encoded : (t : Rose Layout) (m : ArrayData) (models : Roses ArrayData) → HasDictionary m → (p : Piece)
+segment-encoded : (t : Rose Layout) (m : ArrayData) (models : Roses ArrayData) → HasDictionary m → (p : Segment)
     → LiesAs t (node m models) p → OfSlots IsEncoded p
-piece-encoded t m models has (Slots r) lies = range-encoded t m models has r lies
-piece-encoded t m models has (Nulls n) lies = tt
+segment-encoded t m models has (Slots r) lies = range-encoded t m models has r lies
+segment-encoded t m models has (Nulls n) lies = tt
 
-pub all-encoded : (t : Rose Layout) (m : ArrayData) (models : Roses ArrayData) (ps : List Piece) → HasDictionary m
+pub all-encoded : (t : Rose Layout) (m : ArrayData) (models : Roses ArrayData) (ps : List Segment) → HasDictionary m
     → All (LiesAs t (node m models)) ps → All (OfSlots IsEncoded) ps
 all-encoded t m models ps has all =
-    All-weaker (LiesAs t (node m models)) (OfSlots IsEncoded) (piece-encoded t m models has) ps all
+    All-weaker (LiesAs t (node m models)) (OfSlots IsEncoded) (segment-encoded t m models has) ps all
 
 range-below : (l : Layout) (kids : Roses Layout) (m : ArrayData) (models : Roses ArrayData)
     → is_some m.dictionary ≡ false → (r : SlotRange)
@@ -79,32 +79,32 @@ range-below l kids m models bare r lies =
       below = plain.2;
     }
 
-piece-below : (l : Layout) (kids : Roses Layout) (m : ArrayData) (models : Roses ArrayData)
-    → is_some m.dictionary ≡ false → (p : Piece)
+segment-below : (l : Layout) (kids : Roses Layout) (m : ArrayData) (models : Roses ArrayData)
+    → is_some m.dictionary ≡ false → (p : Segment)
     → LiesAs (node l kids) (node m models) p → OfSlots (LiesBelow l kids models) p
-piece-below l kids m models bare (Slots r) lies = range-below l kids m models bare r lies
-piece-below l kids m models bare (Nulls n) lies = tt
+segment-below l kids m models bare (Slots r) lies = range-below l kids m models bare r lies
+segment-below l kids m models bare (Nulls n) lies = tt
 
-pub all-below : (l : Layout) (kids : Roses Layout) (m : ArrayData) (models : Roses ArrayData) (ps : List Piece)
+pub all-below : (l : Layout) (kids : Roses Layout) (m : ArrayData) (models : Roses ArrayData) (ps : List Segment)
     → is_some m.dictionary ≡ false → All (LiesAs (node l kids) (node m models)) ps
     → All (OfSlots (LiesBelow l kids models)) ps
 all-below l kids m models ps bare all =
     All-weaker (LiesAs (node l kids) (node m models)) (OfSlots (LiesBelow l kids models))
-    (piece-below l kids m models bare) ps all
+    (segment-below l kids m models bare) ps all
 
-of-slots : (P Q : SlotRange → Type 0) → ((r : SlotRange) → P r → Q r) → (p : Piece) → OfSlots P p → OfSlots Q p
+of-slots : (P Q : SlotRange → Type 0) → ((r : SlotRange) → P r → Q r) → (p : Segment) → OfSlots P p → OfSlots Q p
 of-slots P Q f (Slots r) h = f r h
 of-slots P Q f (Nulls n) h = tt
 
-all-slots : (P Q : SlotRange → Type 0) → ((r : SlotRange) → P r → Q r) → (ps : List Piece) → All (OfSlots P) ps
+all-slots : (P Q : SlotRange → Type 0) → ((r : SlotRange) → P r → Q r) → (ps : List Segment) → All (OfSlots P) ps
     → All (OfSlots Q) ps
 all-slots P Q f ps all = All-weaker (OfSlots P) (OfSlots Q) (of-slots P Q f) ps all
 
-pub own-layouts : (l : Layout) (kids : Roses Layout) (models : Roses ArrayData) (ps : List Piece)
+pub own-layouts : (l : Layout) (kids : Roses Layout) (models : Roses ArrayData) (ps : List Segment)
     → All (OfSlots (LiesBelow l kids models)) ps → All (OfSlots (HasLayout l)) ps
 own-layouts l kids models ps all = all-slots (LiesBelow l kids models) (HasLayout l) (λ r h. h.own) ps all
 
-pub encoded-checked : (ps : List Piece) → All (OfSlots IsEncoded) ps → All (OfSlots IsChecked) ps
+pub encoded-checked : (ps : List Segment) → All (OfSlots IsEncoded) ps → All (OfSlots IsChecked) ps
 encoded-checked ps all = all-slots IsEncoded IsChecked (λ r h. h.checked) ps all
 
 -- children
@@ -136,13 +136,13 @@ has-child l ts models j h r lies = record {
   below = (models-many ts models r.parts.children.now j lies.below h).1;
 }
 
-pub have-child : (l : Layout) (ts : List (Rose Layout)) (models : List (Rose ArrayData)) (j : ℕ) (ps : List Piece)
+pub have-child : (l : Layout) (ts : List (Rose Layout)) (models : List (Rose ArrayData)) (j : ℕ) (ps : List Segment)
     → j < length ts → All (OfSlots (LiesBelow l (kids_of ts) (kids_of models))) ps → All (OfSlots (HasChild l j)) ps
 have-child l ts models j ps h all =
     all-slots (LiesBelow l (kids_of ts) (kids_of models)) (HasChild l j) (has-child l ts models j h) ps all
 
 pub lie-below : (l : Layout) (ts : List (Rose Layout)) (models : List (Rose ArrayData)) (j : ℕ) (t : Rose Layout)
-    (m : Rose ArrayData) (ps : List Piece) → j < length ts → t ≡ get_or ts j t → m ≡ get_or models j m
+    (m : Rose ArrayData) (ps : List Segment) → j < length ts → t ≡ get_or ts j t → m ≡ get_or models j m
     → All (OfSlots (LiesBelow l (kids_of ts) (kids_of models))) ps → All (OfSlots (ChildLies t m j)) ps
 lie-below l ts models j t m ps h is like all =
     all-slots (LiesBelow l (kids_of ts) (kids_of models)) (ChildLies t m j)

@@ -14,8 +14,8 @@ use Rattle.body_writer.specs.Columns.{joined, offsets_from, items, child_cells}
 use Rattle.body_writer.specs.Runs.{slot_width, slot_bytes}
 use Rattle.values.specs.Rose.{node, kids_of}
 use Rattle.array_layout.specs.Cells.{cell}
-use Rattle.body_writer.specs.declared.from_columns.piece.SlotRange.{SlotRange}
-use Rattle.body_writer.specs.Pieces.{range_cells}
+use Rattle.body_writer.specs.declared.from_columns.segment.SlotRange.{SlotRange}
+use Rattle.body_writer.specs.Segments.{range_cells}
 use Rattle.body_writer.proofs.RunLemmas.{zeros-split}
 use Rattle.body_writer.proofs.BitLemmas.{length-slots}
 use Rattle.body_writer.proofs.SlotLemmas.{slot-null}

@@ -55,7 +55,7 @@ use Rattle.body_writer.proofs.CellBytes.{
   lengths,
   total-lengths,
   lengths-at,
-  piece-at,
+  segment-at,
   each-run,
 }
 
@@ -215,7 +215,7 @@ unfolding slice_at joined offsets
 joined-back o cs i have short h =
     let bytes = bytes_in (get_or cs i null) in
     let from : ℕ = start i (lengths bytes_in cs) in
-    let p = piece-at bytes_in cs i h in
+    let p = segment-at bytes_in cs i h in
     let n : from + length bytes - from ≡ length bytes = omega arith in
     rw (same-lengths bytes_in cs have, from-by bytes_in o cs i short h, to-by bytes_in o cs i short h, n, p.1)
     (take_at bytes p.0 (length bytes) refl)
@@ -229,7 +229,7 @@ unfolding items offsets
 items-back o cs i item have short h read =
     let run = items_in (get_or cs i null) in
     let from : ℕ = start i (lengths items_in cs) in
-    let p = piece-at items_in cs i h in
+    let p = segment-at items_in cs i h in
     let n : from + length run - from ≡ length run = omega arith in
     rw (same-lengths items_in cs have, from-by items_in o cs i short h, to-by items_in o cs i short h, n)
     (each-run item null (flat_map items_in cs) run p.0 from p.1 read)

@@ -66,7 +66,7 @@ use Rattle.array_layout.specs.Sound.{LiesIn, validity_of, values_by, own_faults}
 use Rattle.array_layout.specs.Cells.{text_of, value_by, cell_by}
 use Rattle.body_writer.specs.Slots.{is_valid, truth_in, fixed_in, bytes_in, length_in, listed, items_in}
 use Rattle.body_writer.specs.Columns.{validity, truths, numbers, fixed, offsets, joined, items, own_buffers, own_node}
-use Rattle.body_writer.specs.Law.{Stand}
+use Rattle.body_writer.specs.Law.{HoldBuffers}
 use Rattle.body_writer.proofs.CellBytes.{HaveWidth}
 use Rattle.body_writer.proofs.Validity.{truth-read, truths-sound, validity-sound, null-read}
 use Rattle.body_writer.proofs.NumbersRead.{number-back, decimal-back, numbers-sound, fixed-sound, fixed-back}
@@ -78,14 +78,14 @@ abbrev pub Here : List ℕ → List BufferRange → ℕ → List ℕ → Type 0
 Here body ranges b x = LiesIn body (range_at ranges b) × (bytes_of body (range_at ranges b) ≡ x)
 
 pub second-here : (body : List ℕ) (ranges : List BufferRange) (b : ℕ) (x y : List ℕ) (rest : List (List ℕ))
-    → Stand body ranges b (x ∷ y ∷ rest) → Here body ranges (b + 1) y
+    → HoldBuffers body ranges b (x ∷ y ∷ rest) → Here body ranges (b + 1) y
 second-here body ranges b x y rest st =
     let next : suc b ≡ b + 1 = omega arith in
     let P : ℕ → Type 0 = λ k. Here body ranges k y in
     subst P next (st.2.0, st.2.1)
 
 pub third-here : (body : List ℕ) (ranges : List BufferRange) (b : ℕ) (x y z : List ℕ) (rest : List (List ℕ))
-    → Stand body ranges b (x ∷ y ∷ z ∷ rest) → Here body ranges (b + 2) z
+    → HoldBuffers body ranges b (x ∷ y ∷ z ∷ rest) → Here body ranges (b + 2) z
 third-here body ranges b x y z rest st =
     let next : suc (suc b) ≡ b + 2 = omega arith in
     let P : ℕ → Type 0 = λ k. Here body ranges k z in
@@ -198,7 +198,7 @@ few-digits p (more t ts) is = absurd is
 
 pub validity-here :
     (l : Layout) (cs : List Datum) (body : List ℕ) (ranges : List BufferRange) (b : ℕ)
-    → Stand body ranges b (own_buffers l cs)
+    → HoldBuffers body ranges b (own_buffers l cs)
     → Here body ranges b (validity cs)
 validity-here Booleans cs body ranges b st = (st.0, st.1)
 validity-here (Int w s) cs body ranges b st = (st.0, st.1)
@@ -213,7 +213,7 @@ value-read :
     (l : Layout) (kids : Roses Layout) (cs : List Datum) (body : List ℕ) (all : List FieldNode)
     (ranges : List BufferRange) (n b : ℕ)
     (entry : ℕ → Reading Datum) (row : ℕ → Reading (List Datum)) (i : ℕ) → IsNode l kids → All (Holds (node l kids)) cs
-    → run_length l cs < 2 ^ 31 → Stand body ranges b (own_buffers l cs) → KidsRead l cs entry row → i < length cs
+    → run_length l cs < 2 ^ 31 → HoldBuffers body ranges b (own_buffers l cs) → KidsRead l cs entry row → i < length cs
     → is_valid (get_or cs i null) ≡ true
     → value_by l body (data_at all ranges n b l) entry row i ≡ Ok (get_or cs i null)
 value-read Booleans kids cs body all ranges n b entry row i is held short st read h v =
@@ -254,7 +254,7 @@ pub own-cell :
     (l : Layout) (kids : Roses Layout) (cs : List Datum) (body : List ℕ) (all : List FieldNode)
     (ranges : List BufferRange) (n b : ℕ)
     (entry : ℕ → Reading Datum) (row : ℕ → Reading (List Datum)) (i : ℕ) → IsNode l kids → All (Holds (node l kids)) cs
-    → run_length l cs < 2 ^ 31 → Stand body ranges b (own_buffers l cs) → KidsRead l cs entry row → i < length cs
+    → run_length l cs < 2 ^ 31 → HoldBuffers body ranges b (own_buffers l cs) → KidsRead l cs entry row → i < length cs
     → cell_by body (data_at all ranges n b l) entry row i ≡ Ok (get_or cs i null)
 unfolding cell_by
 own-cell l kids cs body all ranges n b entry row i is held short st read h =
@@ -275,7 +275,7 @@ HasSlots l cs slots = Unit {0}
 values-sound :
     (l : Layout) (kids : Roses Layout) (cs : List Datum) (body : List ℕ) (all : List FieldNode)
     (ranges : List BufferRange) (n b slots : ℕ)
-    → All (Holds (node l kids)) cs → run_length l cs < 2 ^ 31 → Stand body ranges b (own_buffers l cs)
+    → All (Holds (node l kids)) cs → run_length l cs < 2 ^ 31 → HoldBuffers body ranges b (own_buffers l cs)
     → node_at all n ≡ own_node cs
     → HasSlots l cs slots → values_by l body (data_at all ranges n b l) slots ≡ Ok tt
 values-sound Booleans kids cs body all ranges n b slots held short st saturated few =
@@ -312,7 +312,7 @@ values-sound Struct kids cs body all ranges n b slots held short st saturated fe
 pub own-sound :
     (l : Layout) (kids : Roses Layout) (cs : List Datum) (body : List ℕ) (all : List FieldNode)
     (ranges : List BufferRange) (n b slots : ℕ)
-    → All (Holds (node l kids)) cs → run_length l cs < 2 ^ 31 → Stand body ranges b (own_buffers l cs)
+    → All (Holds (node l kids)) cs → run_length l cs < 2 ^ 31 → HoldBuffers body ranges b (own_buffers l cs)
     → node_at all n ≡ own_node cs
     → HasSlots l cs slots → own_faults body (data_at all ranges n b l) slots ≡ Ok tt
 unfolding own_faults

@@ -31,7 +31,7 @@ use Rattle.array_layout.specs.declared.array.BufferRange.{BufferRange}
 use Rattle.array_layout.specs.Placing.{node_at, range_at, bytes_of}
 use Rattle.array_layout.specs.Sound.{LiesIn}
 use Rattle.body_writer.specs.Body.{padding, padded, laid, ranges_from}
-use Rattle.body_writer.specs.Law.{AreNodes, Stand, NodesStandLaw, BuffersStandLaw, AlignedLaw}
+use Rattle.body_writer.specs.Law.{AreNodes, HoldBuffers, NodesAreHeldLaw, BuffersAreHeldLaw, AlignedLaw}
 
 node-here : (before : List FieldNode) (x : FieldNode) (after : List FieldNode)
     → node_at (before ++ x ∷ after) (length before) ≡ x
@@ -54,7 +54,7 @@ nodes-stand all before (x ∷ xs) after n is e =
     let all_before = length-append before (x ∷ []) in
     (here, nodes-stand all (before ++ x ∷ []) xs after (suc n) next (omega (arith, e, all_before)))
 
-pub nodes-stand-law : NodesStandLaw
+pub nodes-stand-law : NodesAreHeldLaw
 nodes-stand-law before xs after = nodes-stand (before ++ (xs ++ after)) before xs after (length before) refl refl
 
 range-at : (before x after : List ℕ)
@@ -73,7 +73,7 @@ lies body before x after at is e =
 buffers-stand :
     (body before after : List ℕ) (ranges sb sa : List BufferRange) (xs : List (List ℕ)) (b at : ℕ)
     → body ≡ before ++ (laid xs ++ after) → at ≡ length before
-    → ranges ≡ sb ++ (ranges_from at xs ++ sa) → b ≡ length sb → Stand body ranges b xs
+    → ranges ≡ sb ++ (ranges_from at xs ++ sa) → b ≡ length sb → HoldBuffers body ranges b xs
 buffers-stand body before after ranges sb sa [] b at is e saturated c = tt
 buffers-stand body before after ranges sb sa (x ∷ xs) b at is e saturated c =
     let s : BufferRange = record { from = at; len = length x } in
@@ -107,7 +107,7 @@ buffers-stand body before after ranges sb sa (x ∷ xs) b at is e saturated c =
           place next_told next_place,
     )
 
-pub buffers-stand-law : BuffersStandLaw
+pub buffers-stand-law : BuffersAreHeldLaw
 buffers-stand-law before after sb sa xs =
     buffers-stand (before ++ (laid xs ++ after)) before after (sb ++ (ranges_from (length before) xs ++ sa)) sb sa xs
     (length sb) (length before) refl refl refl refl

@@ -8,8 +8,8 @@ use Rattle.bitmaps.specs.Bits.{bits_at, ones, pairwise}
 use Rattle.array_layout.specs.Placing.{bytes_of}
 use Rattle.array_layout.specs.Cells.{cell}
 use Rattle.body_writer.specs.Slots.{is_valid, null_count, truth_in}
-use Rattle.body_writer.specs.Pieces.{IsChecked, range_cells}
-use Rattle.body_writer.specs.declared.from_columns.piece.SlotRange.{SlotRange}
+use Rattle.body_writer.specs.Segments.{IsChecked, range_cells}
+use Rattle.body_writer.specs.declared.from_columns.segment.SlotRange.{SlotRange}
 use Rattle.body_writer.proofs.SlotLemmas.{AllValid}
 use Rattle.body_writer.proofs.BitLemmas.{all-set, length-slots, ones-nulls, plain-truths, truth-bits, valid-bits}
 

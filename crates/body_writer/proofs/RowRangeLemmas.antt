@@ -49,8 +49,8 @@ use Rattle.body_writer.specs.Runs.{cell_in, slots}
 use Rattle.body_writer.specs.declared.from_columns.batch.RowRange.{RowRange}
 use Rattle.std.proofs.lemmas.List.Elements.{All-append, All-cons, All-nil, All-weaker}
 use Rattle.std.proofs.lemmas.List.Concat.{flat_map-append}
-use Rattle.body_writer.specs.declared.from_columns.piece.Piece.{Piece}
-use Rattle.body_writer.specs.Pieces.{piece_cells, pieces_cells}
+use Rattle.body_writer.specs.declared.from_columns.segment.Segment.{Segment}
+use Rattle.body_writer.specs.Segments.{segment_cells, segments_cells}
 use Rattle.body_writer.specs.RowRanges.{cells_in, range_rows, ranges_rows, column_in, IsRange, HasColumn}
 
 cells-good : (b : List ℕ) (t : Rose ArrayData) (ds : List Datum) → cells b t ≡ Ok ds → IsValid (cells b t)
@@ -199,12 +199,12 @@ values-step ds i to d made next total h room there n is =
 
 -- one more piece
 
-pub all-more : (P : Piece → Type 0) (ps : List Piece) (p : Piece) → All P ps → P p → All P (ps ++ p ∷ [])
+pub all-more : (P : Segment → Type 0) (ps : List Segment) (p : Segment) → All P ps → P p → All P (ps ++ p ∷ [])
 all-more P ps p all one = All-append P ps (p ∷ []) all (All-cons P p [] one (All-nil P))
 
-pub pieces-more : (ps : List Piece) (p : Piece) → pieces_cells (ps ++ p ∷ []) ≡ pieces_cells ps ++ piece_cells p
-pieces-more ps p = flat_map-append piece_cells ps (p ∷ [])
-    ∙ ap (λ cs. pieces_cells ps ++ cs) (append-nil (piece_cells p))
+pub segments-more : (ps : List Segment) (p : Segment) → segments_cells (ps ++ p ∷ []) ≡ segments_cells ps ++ segment_cells p
+segments-more ps p = flat_map-append segment_cells ps (p ∷ [])
+    ∙ ap (λ cs. segments_cells ps ++ cs) (append-nil (segment_cells p))
 
 pub all-columns : (n j : ℕ) (rs : List RowRange) → j < n → All (IsRange n) rs → All (HasColumn j) rs
 all-columns n j rs h all = All-weaker (IsRange n) (HasColumn j) has rs all where

@@ -42,8 +42,8 @@ use Rattle.values.specs.Layouts.{
   IsLayout,
   Holds,
   HoldsEach,
-  slot,
-  slots,
+  null_weight,
+  null_weights,
   weight,
   items_weight,
   row_weight,
@@ -134,7 +134,7 @@ abbrev parts_weight : ℕ → Roses Layout → Datum → ℕ
 parts_weight j none c = 0
 parts_weight j (more t ts) c = weight t (part j c) + parts_weight (suc j) ts c
 
-pub null-weight : (t : Rose Layout) → weight t null ≡ slot t
+pub null-weight : (t : Rose Layout) → weight t null ≡ null_weight t
 null-weight (node Booleans kids) = refl
 null-weight (node (Int w s) kids) = refl
 null-weight (node (Decimal p) kids) = refl
@@ -144,7 +144,7 @@ null-weight (node (Binary o) kids) = refl
 null-weight (node (Listed o) kids) = refl
 null-weight (node Struct kids) = refl
 
-null-parts : (j : ℕ) (ts : Roses Layout) → slots ts ≡ parts_weight j ts null
+null-parts : (j : ℕ) (ts : Roses Layout) → null_weights ts ≡ parts_weight j ts null
 null-parts j none = refl
 null-parts j (more t ts) =
     let here = null-weight t in
@@ -223,22 +223,22 @@ bytes-long o [] = omega arith
 bytes-long o (c ∷ cs) = let there = bytes-long o cs in
     omega (arith, there, length-append (bytes_in c) (flat_map bytes_in cs))
 
-slot-long : (t : Rose Layout) → 1 ≤ slot t
-slot-long (node Booleans kids) = omega arith
-slot-long (node (Int w s) kids) = omega arith
-slot-long (node (Decimal p) kids) = omega arith
-slot-long (node (FixedSizeBinary w) kids) = omega arith
-slot-long (node (Utf8 o) kids) = omega arith
-slot-long (node (Binary o) kids) = omega arith
-slot-long (node (Listed o) kids) = omega arith
-slot-long (node Struct kids) = omega arith
+null_weight-long : (t : Rose Layout) → 1 ≤ null_weight t
+null_weight-long (node Booleans kids) = omega arith
+null_weight-long (node (Int w s) kids) = omega arith
+null_weight-long (node (Decimal p) kids) = omega arith
+null_weight-long (node (FixedSizeBinary w) kids) = omega arith
+null_weight-long (node (Utf8 o) kids) = omega arith
+null_weight-long (node (Binary o) kids) = omega arith
+null_weight-long (node (Listed o) kids) = omega arith
+null_weight-long (node Struct kids) = omega arith
 
 weight-long : (t : Rose Layout) (c : Datum) → 1 ≤ weight t c
 weight-long (node (Utf8 o) kids) (text b) = omega arith
 weight-long (node (Binary o) kids) (bytes b) = omega arith
 weight-long (node (Listed o) kids) (list es) = omega arith
 weight-long (node Struct kids) (structure es) = omega arith
-weight-long t c = slot-long t
+weight-long t c = null_weight-long t
 
 pub weights-long : (t : Rose Layout) (cs : List Datum) → length cs ≤ weights t cs
 weights-long t [] = omega arith

@@ -1,11 +1,11 @@
 -- What columns that are written are read as, how many nodes and buffers they have, and how long they are.
-use Rattle.std.specs.Prelude.{◌≡◌, ℕ, suc, ◌+◌, ◌*◌, ◌%◌, ◌^◌, ◌<◌, ◌≤◌, All, Ok, List, [], ◌∷◌, ◌++◌, length, map}
+use Rattle.std.specs.Prelude.{◌≡◌, ℕ, suc, ◌+◌, ◌*◌, ◌%◌, ◌<◌, ◌≤◌, All, Ok, List, [], ◌∷◌, ◌++◌, length, map}
 use Rattle.values.specs.Limits.{max_body_size, max_batch_weight}
 use Rattle.values.specs.Rose.{Rose, node, Roses, none, more, rose_size}
 use Rattle.values.specs.Datum.{Datum}
 use Rattle.values.specs.declared.layout.Layout.{Layout}
 use Rattle.values.specs.declared.layout.Layout.TheVariants.{Struct}
-use Rattle.values.specs.Layouts.{IsLayout, AreLayouts, Holds}
+use Rattle.values.specs.Layouts.{AreLayouts, Holds, IsLayout, offset_bound}
 use Rattle.array_layout.specs.declared.array.FieldNode.{FieldNode}
 use Rattle.array_layout.specs.declared.array.BufferRange.{BufferRange}
 use Rattle.array_layout.specs.declared.array.ArrayData.{ArrayData}
@@ -23,24 +23,24 @@ AreNodes all n [] = Unit {0}
 AreNodes all n (x ∷ xs) = (node_at all n ≡ x) × AreNodes all (suc n) xs
 
 -- the buffers from number b on lie in the body, and hold these bytes
-abbrev pub Stand : List ℕ → List BufferRange → ℕ → List (List ℕ) → Type 0
-Stand body ranges b [] = Unit {0}
-Stand body ranges b (x ∷ xs) =
-    LiesIn body (range_at ranges b) × (bytes_of body (range_at ranges b) ≡ x) × Stand body ranges (suc b) xs
+abbrev pub HoldBuffers : List ℕ → List BufferRange → ℕ → List (List ℕ) → Type 0
+HoldBuffers body ranges b [] = Unit {0}
+HoldBuffers body ranges b (x ∷ xs) =
+    LiesIn body (range_at ranges b) × (bytes_of body (range_at ranges b) ≡ x) × HoldBuffers body ranges (suc b) xs
 
 -- Whatever stands around its nodes and buffers: a column's cells are read back, and no fault stands in it.
 abbrev pub ColumnLaw : Type 0
 ColumnLaw =
     (t : Rose Layout) (cs : List Datum) (body : List ℕ) (all : List FieldNode) (ranges : List BufferRange) (n b : ℕ)
     → IsLayout t → All (Holds t) cs
-    → weights t cs < 2 ^ 31 → AreNodes all n (nodes t cs) → Stand body ranges b (buffers t cs)
+    → weights t cs < offset_bound → AreNodes all n (nodes t cs) → HoldBuffers body ranges b (buffers t cs)
     → column_of body (placed all ranges n b t) ≡ Ok cs
 
 abbrev pub PlacedLaw : Type 0
 PlacedLaw =
     (t : Rose Layout) (cs : List Datum) (body : List ℕ) (all : List FieldNode) (ranges : List BufferRange) (n b : ℕ)
     → IsLayout t → All (Holds t) cs
-    → weights t cs < 2 ^ 31 → AreNodes all n (nodes t cs) → Stand body ranges b (buffers t cs)
+    → weights t cs < offset_bound → AreNodes all n (nodes t cs) → HoldBuffers body ranges b (buffers t cs)
     → IsPlaced body (placed all ranges n b t)
 
 -- as many nodes as the tree has, as many buffers as its layouts want
@@ -60,20 +60,20 @@ abbrev pub BatchLaw : Type 0
 BatchLaw =
     (ts : Roses Layout) (rows : List Datum) (body : List ℕ) (all : List FieldNode) (ranges : List BufferRange) (n b : ℕ)
     → AreLayouts ts
-    → All (Holds (node Struct ts)) rows → weights (node Struct ts) rows < 2 ^ 31
+    → All (Holds (node Struct ts)) rows → weights (node Struct ts) rows < offset_bound
     → AreNodes all n (nodes_below Struct 0 ts rows)
-    → Stand body ranges b (buffers_below Struct 0 ts rows)
+    → HoldBuffers body ranges b (buffers_below Struct 0 ts rows)
     → AreRead body (placed_all all ranges n b ts) 0 rows × ArePlaced body (placed_all all ranges n b ts)
 
 -- nodes and buffers that are appended come right after those that were there
 
-abbrev pub NodesStandLaw : Type 0
-NodesStandLaw = (before xs after : List FieldNode) → AreNodes (before ++ (xs ++ after)) (length before) xs
+abbrev pub NodesAreHeldLaw : Type 0
+NodesAreHeldLaw = (before xs after : List FieldNode) → AreNodes (before ++ (xs ++ after)) (length before) xs
 
-abbrev pub BuffersStandLaw : Type 0
-BuffersStandLaw =
+abbrev pub BuffersAreHeldLaw : Type 0
+BuffersAreHeldLaw =
     (before after : List ℕ) (sb sa : List BufferRange) (xs : List (List ℕ))
-    → Stand (before ++ (laid xs ++ after)) (sb ++ (ranges_from (length before) xs ++ sa)) (length sb) xs
+    → HoldBuffers (before ++ (laid xs ++ after)) (sb ++ (ranges_from (length before) xs ++ sa)) (length sb) xs
 
 -- each buffer stands at a multiple of 8
 abbrev pub AlignedLaw : Type 0

@@ -5,9 +5,9 @@ pub mod Grows
 pub mod Law
 pub mod Batch
 pub mod Runs
-pub mod Pieces
+pub mod Segments
 pub mod RowRanges
 pub mod Texts
 pub mod Picked
-pub mod Places
+pub mod Locations
 pub mod Heavy

@@ -1,8 +1,8 @@
 //! Bytes that are written of values and of columns alike.
 
-ghost use Rattle.std.specs.Prelude.{◌≡◌, ◌<◌, ◌++◌, ◌^◌, OnOk, replicate};
+ghost use Rattle.std.specs.Prelude.{◌≡◌, ◌<◌, ◌++◌, OnOk, replicate};
 ghost use Rattle.byteorder.specs.Endian.{little_bytes};
-ghost use Rattle.values.specs.Layouts.{offset_bytes};
+ghost use Rattle.values.specs.Layouts.{offset_bound, offset_bytes};
 
 use byteorder::{ByteOrder, LittleEndian};
 use std::alloc::AllocError;
@@ -22,7 +22,7 @@ pub(crate) fn push_offset(
     width: OffsetWidth,
     offset: u64,
 ) -> Result<(), AllocError>
-    requires { offset < 2 ^ 31 }
+    requires { offset < offset_bound }
     ensures { OnOk result (out.new.items ≡ out.old.items ++ little_bytes (offset_bytes width) offset) }
 {
     let mut bytes = [0u8; 8];

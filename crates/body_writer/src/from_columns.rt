@@ -2,7 +2,7 @@
 //! made of cells.
 //!
 //! Slots that lie one after the other and are all valid are copied at once (`specs/Runs.antt`). The cells of a column
-//! of a batch may lie in several arrays (`specs/Pieces.antt`), since its rows may come from several batches
+//! of a batch may lie in several arrays (`specs/Segments.antt`), since its rows may come from several batches
 //! (`specs/RowRanges.antt`). The pieces of a child follow from the runs of the array above it. Where arrays have a
 //! dictionary, below lists and structs too, cells are written from references to its values (`encoded.rt`), texts and
 //! bytes from slices of them (`encoded_texts.rt`, `specs/Texts.antt`). Columns with arrays of another layout, or with
@@ -19,8 +19,8 @@ pub(crate) mod gather;
 pub(crate) mod kinds;
 pub(crate) mod own;
 pub(crate) mod picked;
-pub(crate) mod piece;
-pub(crate) mod pieces;
+pub(crate) mod segment;
+pub(crate) mod segments;
 pub(crate) mod slot_runs;
 pub(crate) mod texts;
 pub(crate) mod write;

@@ -4,11 +4,11 @@ ghost use Rattle.body_writer.specs.Law.{
   AlignedLaw,
   BatchLaw,
   BatchSizeLaw,
+  BuffersAreHeldLaw,
   BuffersLaw,
-  BuffersStandLaw,
   ColumnLaw,
+  NodesAreHeldLaw,
   NodesLaw,
-  NodesStandLaw,
   PlacedLaw,
   SizeLaw,
 };
@@ -31,9 +31,9 @@ pub fn count_law()
 
 /// Nodes and buffers that are appended come after those that were there, each buffer at a multiple of 8.
 #[tactic(auto, using(crate::proofs::PlaceLemmas::standing))]
-pub fn standing_law()
-    ensures nodes { NodesStandLaw }
-    ensures buffers { BuffersStandLaw }
+pub fn holding_law()
+    ensures nodes { NodesAreHeldLaw }
+    ensures buffers { BuffersAreHeldLaw }
     ensures aligned { AlignedLaw }
 {}
 

@@ -5,14 +5,14 @@
 //! `specs/Batch.antt` what the body of a batch is and which rows make one, `specs/Law.antt` that a column that is
 //! written is read back. The laws are carried by [`column_law`] and its neighbours. What is written has its source in its
 //! name: [`write_column_from_values`], [`write_body_from_columns`], [`write_body_from_picked_columns`] and
-//! [`write_body_from_places`]. Which rows are too heavy to be written is what [`heaviest_row`] and [`weigh_row`] say
+//! [`write_body_from_locations`]. Which rows are too heavy to be written is what [`heaviest_row`] and [`weigh_row`] say
 //! (`specs/Heavy.antt`).
 #![tactic(auto)]
 
 mod body;
 mod bytes;
 mod from_columns;
-mod from_places;
+mod from_locations;
 mod from_values;
 mod laws;
 mod weighing;
@@ -21,11 +21,11 @@ pub use body::Body;
 pub use from_columns::batch::{Batch, RowRange};
 pub use from_columns::picked::write_body_from_picked_columns;
 pub use from_columns::write::write_body_from_columns;
-pub use from_places::cells::copy_cell;
-pub use from_places::place::{PlacedRows, RowPlace};
-pub use from_places::plain::BatchArrays;
-pub use from_places::write::{PlacedColumn, write_body_from_places};
+pub use from_locations::cells::copy_cell;
+pub use from_locations::location::{LocatedRows, RowLocation};
+pub use from_locations::plain::BatchArrays;
+pub use from_locations::write::{LocatedColumn, write_body_from_locations};
 pub use from_values::batch::column_cells;
 pub use from_values::column::write_column_from_values;
-pub use laws::{column_law, count_law, size_law, standing_law};
+pub use laws::{column_law, count_law, holding_law, size_law};
 pub use weighing::{MAX_LIGHT_ROW, heaviest_row, weigh_row};

@@ -11,8 +11,8 @@ ghost use Rattle.body_writer.specs.Batch.{IsBatch};
 ghost use Rattle.body_writer.specs.RowRanges.{IsRange, cells_in, ranges_rows};
 
 use crate::laws::written_law;
-use crate::place::{Cursor, place};
-use array_layout::Array;
+use crate::place::place;
+use array_layout::{Array, ArrayCursor};
 use arrays::Column;
 use body_writer::{Body, RowRange, write_body_from_columns};
 use std::alloc::{AllocError, Global};
@@ -60,7 +60,7 @@ fn read_columns(
         ranges,
         bytes: Vec::new(alloc),
     };
-    let mut at = Cursor { node: 0, range: 0 };
+    let mut at = ArrayCursor { node: 0, range: 0 };
     let mut columns = Vec::with_capacity(alloc, layouts.len())?;
     for tree in layouts {
         let array = place(alloc, tree, &body, &mut at)?;

@@ -13,7 +13,7 @@ use Rattle.array_layout.specs.Buffers.{is_null, unsigned_at}
 use Rattle.values.specs.Layouts.{bytes_in}
 use Rattle.values.specs.declared.layout.IntWidth.{IntWidth}
 use Rattle.column_truths.specs.declared.spans.Span.{Span}
-use Rattle.column_truths.specs.Spans.{in_span, is_taken, lies_in, lying_in, nulls_by, taken_in}
+use Rattle.column_truths.specs.Spans.{in_span, lies_in, lying_in, nulls_by, passes_span, passing_span}
 
 pub length-lying_in : (w : IntWidth) (low span : ℕ) (bytes : List ℕ) (n : ℕ) → length (lying_in w low span bytes n) ≡ n
 unfolding lying_in
@@ -66,19 +66,19 @@ map-taken false f (x ∷ xs) = ap (λ ys. not (f x) ∷ ys) (map-taken false f x
 
 taken_by : (w : IntWidth) (s : Span) (bytes : List ℕ) (n : ℕ)
     → (if s.inside then lying_in w s.low s.span bytes n else map not (lying_in w s.low s.span bytes n))
-    ≡ taken_in w s bytes n
-unfolding lying_in lies_in taken_in
+    ≡ passing_span w s bytes n
+unfolding lying_in lies_in passing_span
 taken_by w s bytes n = map-taken s.inside (λ i. in_span (8 * bytes_in w) s.low s.span (unsigned_at (bytes_in w) bytes i)) (range_with_len 0 n)
 
 pub taken_inside : (w : IntWidth) (s : Span) (bytes : List ℕ) (n : ℕ) (made : List Bool) → s.inside ≡ true
-    → made ≡ lying_in w s.low s.span bytes n → made ≡ taken_in w s bytes n
+    → made ≡ lying_in w s.low s.span bytes n → made ≡ passing_span w s bytes n
 taken_inside w s bytes n made inside is =
     is
     ∙ sym (ap (λ b. if b then lying_in w s.low s.span bytes n else map not (lying_in w s.low s.span bytes n)) inside)
     ∙ taken_by w s bytes n
 
 pub taken_outside : (w : IntWidth) (s : Span) (bytes : List ℕ) (n : ℕ) (made new : List Bool) → s.inside ≡ false
-    → made ≡ lying_in w s.low s.span bytes n → new ≡ map not made → new ≡ taken_in w s bytes n
+    → made ≡ lying_in w s.low s.span bytes n → new ≡ map not made → new ≡ passing_span w s bytes n
 taken_outside w s bytes n made new inside is turned =
     turned ∙ ap (map not) is
     ∙ sym (ap (λ b. if b then lying_in w s.low s.span bytes n else map not (lying_in w s.low s.span bytes n)) inside)
@@ -123,9 +123,9 @@ nulls_absent bits valid m n empty is room =
 
 pub ruleset null_slots = (nulls_present, nulls_absent)
 
-pub length-taken_in : (w : IntWidth) (s : Span) (bytes : List ℕ) (n : ℕ) → length (taken_in w s bytes n) ≡ n
-unfolding taken_in
-length-taken_in w s bytes n = length-map-range_with_len (λ i. is_taken w s (unsigned_at (bytes_in w) bytes i)) 0 n
+pub length-passing_span : (w : IntWidth) (s : Span) (bytes : List ℕ) (n : ℕ) → length (passing_span w s bytes n) ≡ n
+unfolding passing_span
+length-passing_span w s bytes n = length-map-range_with_len (λ i. passes_span w s (unsigned_at (bytes_in w) bytes i)) 0 n
 
 pub length-nulls_by : (bits : List ℕ) (n : ℕ) → length (nulls_by bits n) ≡ n
 unfolding nulls_by

@@ -28,7 +28,7 @@ use Rattle.view_lang.specs.Truth.{compared, holds}
 use Rattle.view_lang.specs.declared.filter.Comparison.{Comparison}
 use Rattle.column_truths.specs.declared.spans.Span.{Span}
 use Rattle.column_truths.specs.Compared.{compared_with}
-use Rattle.column_truths.specs.Spans.{is_taken, nulls_by, numbers_in, taken_in}
+use Rattle.column_truths.specs.Spans.{nulls_by, numbers_in, passes_span, passing_span}
 use Rattle.column_truths.proofs.CodeLemmas.{by_null}
 
 -- bytes are below 256 also in a part
@@ -84,11 +84,11 @@ slot_truth o w s c k body p item children i d has is read =
 -- the numbers for which the comparison holds are those of the span
 abbrev pub IsSpanOf : Comparison → ℤ → IntWidth → Bool → Span → Type 0
 IsSpanOf c k w s span =
-    (u : ℕ) → u < numbers_in w → holds c (int_cmp (number_by s (bytes_in w) u) k) ≡ is_taken w span u
+    (u : ℕ) → u < numbers_in w → holds c (int_cmp (number_by s (bytes_in w) u) k) ≡ passes_span w span u
 
 number_taken : (c : Comparison) (k : ℤ) (w : IntWidth) (s : Bool) (span : Span) (bytes : List ℕ) (i : ℕ)
     → IsSpanOf c k w s span → ((j : ℕ) → slice_index bytes j < 256)
-    → holds c (int_cmp (number_at s (bytes_in w) bytes i) k) ≡ is_taken w span (unsigned_at (bytes_in w) bytes i)
+    → holds c (int_cmp (number_at s (bytes_in w) bytes i) k) ≡ passes_span w span (unsigned_at (bytes_in w) bytes i)
 unfolding number_at
 number_taken c k w s span bytes i value small =
     value (unsigned_at (bytes_in w) bytes i) (unsigned_small w bytes i small)
@@ -98,7 +98,7 @@ cell_truth : (body : List ℕ) (p : ArrayData) (kids : Roses ArrayData) (w : Int
     → p.dictionary ≡ None → p.layout ≡ Int w s → IsSpanOf c k w s span
     → ((j : ℕ) → slice_index (bytes_of body p.values) j < 256) → cell body (node p kids) i ≡ Ok d
     → compared c d (whole k)
-    ≡ truth_by (is_taken w span (unsigned_at (bytes_in w) (bytes_of body p.values) i)) (is_null (bytes_of body p.validity) i)
+    ≡ truth_by (passes_span w span (unsigned_at (bytes_in w) (bytes_of body p.values) i)) (is_null (bytes_of body p.validity) i)
 unfolding cell_by
 cell_truth body p kids w s c k span i d has is value small read =
     let z = number_at s (bytes_in w) (bytes_of body p.values) i in
@@ -115,15 +115,15 @@ pub numbers_compared : (body bits values : List ℕ) (p : ArrayData) (kids : Ros
     → IsValid (cells body (node p kids)) → p.dictionary ≡ None → p.layout ≡ Int w s
     → bits ≡ bytes_of body p.validity → values ≡ bytes_of body p.values → IsSpanOf c k w s span
     → ((j : ℕ) → slice_index body j < 256)
-    → known ≡ taken_in w span values p.len → unknown ≡ nulls_by bits p.len
+    → known ≡ passing_span w span values p.len → unknown ≡ nulls_by bits p.len
     → truths_by known unknown ≡ compared_with c (whole k) (valid_of (cells body (node p kids)))
-unfolding taken_in nulls_by
+unfolding passing_span nulls_by
 numbers_compared body bits values p kids w s c k span known unknown valid has is eb ev value small ek eu =
     let t : Rose ArrayData = node p kids in
     let ds = valid_of (cells body t) in
     let f : Datum → Truth = λ d. compared c d (whole k) in
     let all = cells-length body t valid in
-    let T : List ℕ → ℕ → Bool = λ xs i. is_taken w span (unsigned_at (bytes_in w) xs i) in
+    let T : List ℕ → ℕ → Bool = λ xs i. passes_span w span (unsigned_at (bytes_in w) xs i) in
     let F : ℕ → Truth = λ i. truth_by (T (bytes_of body p.values) i) (is_null (bytes_of body p.validity) i) in
     let bytes_small : (j : ℕ) → slice_index (bytes_of body p.values) j < 256 =
     small_take _ _ (small_drop _ body small) in

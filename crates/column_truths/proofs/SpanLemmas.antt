@@ -10,12 +10,12 @@ use Rattle.std.specs.Int.{int_max, int_min}
 use Rattle.std.specs.Ordering.{MatchOrdering, int_cmp, is_eq, is_ge, is_gt, is_le, is_lt, is_ne}
 use Rattle.std.specs.declared.cmp.Ordering.{Ordering}
 use Rattle.std.specs.declared.cmp.Ordering.TheVariants.{Less, Equal, Greater}
-use Rattle.values.specs.Layouts.{bytes_in}
+use Rattle.values.specs.Layouts.{bytes_in, greatest_of, least_of}
 use Rattle.values.specs.declared.layout.IntWidth.{IntWidth}
 use Rattle.values.specs.declared.layout.IntWidth.TheVariants as int
 use Rattle.array_layout.specs.Buffers.{number_by}
 use Rattle.column_truths.specs.declared.spans.Span.{Span}
-use Rattle.column_truths.specs.Spans.{AreBitsOfNumber, in_span, greatest_of, is_between, is_taken, least_of, numbers_in}
+use Rattle.column_truths.specs.Spans.{AreBitsOfNumber, in_span, is_between, passes_span, numbers_in}
 
 -- how far u is above low
 
@@ -277,7 +277,7 @@ opposite_ge Equal = refl
 opposite_ge Greater = refl
 
 others_taken : (w : IntWidth) (s t : Span) (u : ℕ) → t.low ≡ s.low → t.span ≡ s.span → t.inside ≡ not s.inside
-    → not (is_taken w s u) ≡ is_taken w t u
+    → not (passes_span w s u) ≡ passes_span w t u
 others_taken w s t u low span inside =
     let f : ℕ → ℕ → Bool = λ l n. in_span (8 * bytes_in w) l n u in
     by s.inside (f s.low s.span) ∙ ap (λ b. if b then f s.low s.span else not (f s.low s.span)) (sym inside)
@@ -289,25 +289,25 @@ others_taken w s t u low span inside =
       by false false = refl
 
 -- of each comparison, whose cases `span_of` goes through
-pub taken_Different : (w : IntWidth) (z k : ℤ) (s t : Span) (u : ℕ) → is_between k k z ≡ is_taken w s u
-    → t.low ≡ s.low → t.span ≡ s.span → t.inside ≡ not s.inside → is_ne (int_cmp z k) ≡ is_taken w t u
+pub taken_Different : (w : IntWidth) (z k : ℤ) (s t : Span) (u : ℕ) → is_between k k z ≡ passes_span w s u
+    → t.low ≡ s.low → t.span ≡ s.span → t.inside ≡ not s.inside → is_ne (int_cmp z k) ≡ passes_span w t u
 taken_Different w z k s t u is a b c =
     opposite_eq (int_cmp z k) ∙ ap not (same_between z k ∙ is) ∙ others_taken w s t u a b c
 
-pub taken_Above : (w : IntWidth) (least z k : ℤ) (s t : Span) (u : ℕ) → least ≤ℤ z → is_between least k z ≡ is_taken w s u
-    → t.low ≡ s.low → t.span ≡ s.span → t.inside ≡ not s.inside → is_gt (int_cmp z k) ≡ is_taken w t u
+pub taken_Above : (w : IntWidth) (least z k : ℤ) (s t : Span) (u : ℕ) → least ≤ℤ z → is_between least k z ≡ passes_span w s u
+    → t.low ≡ s.low → t.span ≡ s.span → t.inside ≡ not s.inside → is_gt (int_cmp z k) ≡ passes_span w t u
 taken_Above w least z k s t u low is a b c =
     opposite_le (int_cmp z k) ∙ ap not (below_between least z k low ∙ is) ∙ others_taken w s t u a b c
 
 pub taken_Below : (w : IntWidth) (greatest z k : ℤ) (s t : Span) (u : ℕ) → z ≤ℤ greatest
-    → is_between k greatest z ≡ is_taken w s u
-    → t.low ≡ s.low → t.span ≡ s.span → t.inside ≡ not s.inside → is_lt (int_cmp z k) ≡ is_taken w t u
+    → is_between k greatest z ≡ passes_span w s u
+    → t.low ≡ s.low → t.span ≡ s.span → t.inside ≡ not s.inside → is_lt (int_cmp z k) ≡ passes_span w t u
 taken_Below w greatest z k s t u high is a b c =
     opposite_ge (int_cmp z k) ∙ ap not (above_between greatest z k high ∙ is) ∙ others_taken w s t u a b c
 
 -- no number, as all others than all
 pub none_taken : (w : IntWidth) (s : Span) (u : ℕ) → s.low ≡ 0 → s.span + 1 ≡ numbers_in w → s.inside ≡ false
-    → u < numbers_in w → false ≡ is_taken w s u
+    → u < numbers_in w → false ≡ passes_span w s u
 none_taken w s u low span inside small =
     let m = numbers_in w in
     let whole : (u + (m - s.low)) % m ≡ u =

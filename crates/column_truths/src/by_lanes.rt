@@ -13,7 +13,7 @@ ghost use Rattle.array_layout.specs.Cells.{cells};
 ghost use Rattle.array_layout.specs.Sound.{IsSound};
 ghost use Rattle.arrays.specs.Checked.{valid_of};
 ghost use Rattle.column_truths.specs.Compared.{compared_with};
-ghost use Rattle.column_truths.specs.Spans.{in_span, lies_in, lying_in, nulls_by, numbers_in, taken_in};
+ghost use Rattle.column_truths.specs.Spans.{in_span, lies_in, lying_in, nulls_by, numbers_in, passing_span};
 
 use crate::spans::{Span, numbers_in, span_of};
 use array_layout::{Array, ArrayData, buffer, number};
@@ -161,7 +161,7 @@ fn numbers_within(
 
 /// Which of the first `len` numbers are those of a span, or of all others.
 #[tactic(auto, using(crate::proofs::LaneRuns::taking))]
-fn numbers_taken(
+fn numbers_passing(
     alloc: Global,
     bytes: &[u8],
     width: IntWidth,
@@ -171,7 +171,7 @@ fn numbers_taken(
     requires low { span.low < numbers_in width }
     requires span { span.span < numbers_in width }
     requires room { bytes_in width * len ≤ length bytes.now }
-    ensures { IfOk result (λ b. b ≡ taken_in width span bytes.now len) }
+    ensures { IfOk result (λ b. b ≡ passing_span width span bytes.now len) }
 {
     let within = numbers_within(alloc, bytes, width, len, span)?;
     if span.inside {
@@ -214,7 +214,7 @@ pub(crate) fn compare_numbers(
         (valid_of (cells body.now (node own.now (kids_of children.now))))) }
 {
     let span = span_of(comparison, constant, width, signed);
-    let known = numbers_taken(alloc, buffer(body, &own.values), width, own.len, span)?;
+    let known = numbers_passing(alloc, buffer(body, &own.values), width, own.len, span)?;
     let unknown = null_slots(alloc, buffer(body, &own.validity), own.len)?;
     let truths = Truths::new(alloc, &known.bits(), unknown)?;
     Ok(truths)

@@ -2,16 +2,14 @@
 
 ghost use Rattle.std.specs.Prelude.{◌≡◌, ◌+◌, ◌*◌, ◌<◌, ◌≤◌, ◌^◌, ◌≤ℤ◌, ℕ, pos, not, false, true};
 ghost use Rattle.std.specs.Ordering.{int_cmp};
-ghost use Rattle.values.specs.Layouts.{bytes_in};
+ghost use Rattle.values.specs.Layouts.{bytes_in, greatest_of, least_of};
 ghost use Rattle.array_layout.specs.Buffers.{number_by};
 ghost use Rattle.view_lang.specs.Truth.{holds};
 ghost use Rattle.column_truths.specs.Spans.{
   AreBitsOfNumber,
   in_span,
   is_between,
-  is_taken,
-  greatest_of,
-  least_of,
+  passes_span,
   numbers_in,
 };
 
@@ -38,35 +36,6 @@ pub(crate) fn numbers_in(width: IntWidth) -> i128
     }
 }
 
-/// The least number of this width.
-fn least(width: IntWidth, signed: bool) -> i128
-    ensures { result ≡ least_of width signed }
-{
-    match (width, signed) {
-        (IntWidth::Bits8, true) => i128::from(i8::MIN),
-        (IntWidth::Bits16, true) => i128::from(i16::MIN),
-        (IntWidth::Bits32, true) => i128::from(i32::MIN),
-        (IntWidth::Bits64, true) => i128::from(i64::MIN),
-        (_, false) => 0,
-    }
-}
-
-/// The greatest number of this width.
-fn greatest(width: IntWidth, signed: bool) -> i128
-    ensures { result ≡ greatest_of width signed }
-{
-    match (width, signed) {
-        (IntWidth::Bits8, true) => i128::from(i8::MAX),
-        (IntWidth::Bits16, true) => i128::from(i16::MAX),
-        (IntWidth::Bits32, true) => i128::from(i32::MAX),
-        (IntWidth::Bits64, true) => i128::from(i64::MAX),
-        (IntWidth::Bits8, false) => i128::from(u8::MAX),
-        (IntWidth::Bits16, false) => i128::from(u16::MAX),
-        (IntWidth::Bits32, false) => i128::from(u32::MAX),
-        (IntWidth::Bits64, false) => i128::from(u64::MAX),
-    }
-}
-
 /// The bits of a number of this width.
 #[tactic(auto, using(crate::proofs::SpanLemmas::near))]
 fn bits_of(number: i128, width: IntWidth) -> u64
@@ -90,7 +59,7 @@ fn span_from(first: i128, last: i128, width: IntWidth, signed: bool) -> Span
     ensures low { result.low < numbers_in width }
     ensures span { result.span < numbers_in width }
     ensures value { (u : ℕ) → u < numbers_in width
-        → is_between first last (number_by signed (bytes_in width) u) ≡ is_taken width result u }
+        → is_between first last (number_by signed (bytes_in width) u) ≡ passes_span width result u }
 {
     Span {
         low: bits_of(first, width),
@@ -104,7 +73,7 @@ fn span_from(first: i128, last: i128, width: IntWidth, signed: bool) -> Span
 fn none(width: IntWidth) -> Span
     ensures low { result.low < numbers_in width }
     ensures span { result.span < numbers_in width }
-    ensures value { (u : ℕ) → u < numbers_in width → false ≡ is_taken width result u }
+    ensures value { (u : ℕ) → u < numbers_in width → false ≡ passes_span width result u }
 {
     Span {
         low: 0,
@@ -118,10 +87,10 @@ fn span_between(from: i128, to: i128, width: IntWidth, signed: bool) -> Span
     ensures low { result.low < numbers_in width }
     ensures span { result.span < numbers_in width }
     ensures value { (u : ℕ) → u < numbers_in width
-        → is_between from to (number_by signed (bytes_in width) u) ≡ is_taken width result u }
+        → is_between from to (number_by signed (bytes_in width) u) ≡ passes_span width result u }
 {
-    let first = from.max(least(width, signed));
-    let last = to.min(greatest(width, signed));
+    let first = from.max(width.least(signed));
+    let last = to.min(width.greatest(signed));
     // Cut to the width, the ends are out of order where none of its numbers lies between them.
     if last < first {
         none(width)
@@ -148,7 +117,7 @@ pub(crate) fn span_of(comparison: Comparison, constant: i128, width: IntWidth, s
     ensures low { result.low < numbers_in width }
     ensures span { result.span < numbers_in width }
     ensures value { (u : ℕ) → u < numbers_in width
-        → holds comparison (int_cmp (number_by signed (bytes_in width) u) constant) ≡ is_taken width result u }
+        → holds comparison (int_cmp (number_by signed (bytes_in width) u) constant) ≡ passes_span width result u }
 {
     match comparison {
         Comparison::Equal => span_between(constant, constant, width, signed),

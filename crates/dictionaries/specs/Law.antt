@@ -5,15 +5,15 @@ use Rattle.dictionaries.specs.Batches.{DictionaryBatch, dictionary_after, found_
 use Rattle.dictionaries.specs.Table.{Table, Takes, found, values_in}
 
 -- each id has its values after the batches
-abbrev pub StandsAfter : List DictionaryBatch → Table → Type 0
-StandsAfter bs t = (id : ℤ) → found t id ≡ found_after bs id
+abbrev pub HoldsAfter : List DictionaryBatch → Table → Type 0
+HoldsAfter bs t = (id : ℤ) → found t id ≡ found_after bs id
 
 abbrev pub NoneAtFirst : Type 0
-NoneAtFirst = (t : Table) → t.entries ≡ [] → StandsAfter [] t
+NoneAtFirst = (t : Table) → t.entries ≡ [] → HoldsAfter [] t
 
 abbrev pub TakingIsOneMore : Type 0
-TakingIsOneMore = (bs : List DictionaryBatch) (b : DictionaryBatch) (old new : Table) → StandsAfter bs old
-    → Takes old new b → StandsAfter (bs ++ b ∷ []) new
+TakingIsOneMore = (bs : List DictionaryBatch) (b : DictionaryBatch) (old new : Table) → HoldsAfter bs old
+    → Takes old new b → HoldsAfter (bs ++ b ∷ []) new
 
 -- what an id has after one more batch
 abbrev pub OneMore : Type 0
@@ -25,5 +25,5 @@ OneMore =
 
 -- The dictionary of an id that is looked up has these values.
 abbrev pub ValuesAfter : Type 0
-ValuesAfter = (bs : List DictionaryBatch) (t : Table) → StandsAfter bs t → (id : ℤ)
+ValuesAfter = (bs : List DictionaryBatch) (t : Table) → HoldsAfter bs t → (id : ℤ)
     → values_in t id ≡ dictionary_after bs id

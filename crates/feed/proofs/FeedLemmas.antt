@@ -35,11 +35,11 @@ use Rattle.std.specs.Ordering.{int_eq}
 use Rattle.values.specs.Datum.{Datum}
 use Rattle.values.specs.Layouts.{Holds}
 use Rattle.values.specs.Rose.{Rose}
-use Rattle.values.specs.Reading.{Fails, Passes, Stands}
+use Rattle.values.specs.Reading.{Fails, FailsWith, Passes}
 use Rattle.values.specs.declared.faults.StreamFault.{StreamFault}
 use Rattle.values.specs.declared.faults.StreamFault.TheVariants as fault
 use Rattle.dictionaries.specs.Batches.{DictionaryBatch}
-use Rattle.dictionaries.specs.Law.{NoneAtFirst, StandsAfter}
+use Rattle.dictionaries.specs.Law.{HoldsAfter, NoneAtFirst}
 use Rattle.dictionaries.specs.Table.{Change, Changes, Table, found, values_in}
 use Rattle.values.specs.Logical.{NamedType}
 use Rattle.schema_meta.specs.DictionaryBatch.{value_layout}
@@ -110,7 +110,7 @@ pub is-at : (f : FeedParts) (s : FeedState) → Shows f s → IsAt (retained_in 
 is-at f s shows = (shows.stream, shows.dictionaries)
 
 -- entries that are the same stand for the same
-stands-same : (bs : List DictionaryBatch) (t u : Table) → u.entries ≡ t.entries → StandsAfter bs t → StandsAfter bs u
+stands-same : (bs : List DictionaryBatch) (t u : Table) → u.entries ≡ t.entries → HoldsAfter bs t → HoldsAfter bs u
 stands-same bs t u same stands = λ id. ap (λ es. lookup (int_eq id) es) same ∙ stands id
 
 -- a feed that nothing happened to but its condition
@@ -286,7 +286,7 @@ closed-some f s [] empty shut is some shows = absurd (true-false empty is some) 
   true-false true p q = absurd (cc)
   true-false false p q = absurd (cc)
 closed-some f s (x ∷ xs) empty shut is some shows =
-    subst (λ m. Stands m fault.AfterEnd) (sym (gives-closed f s (x ∷ xs) shut shows)) refl
+    subst (λ m. FailsWith m fault.AfterEnd) (sym (gives-closed f s (x ∷ xs) shut shows)) refl
 
 pub closed-fault :
     (f : FeedParts) (s : FeedState) (piece : List ℕ) (framing : FramerState) (change : Option Change) (next : Condition)

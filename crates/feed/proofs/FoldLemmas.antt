@@ -49,7 +49,7 @@ use Rattle.feed.specs.declared.condition.Condition.TheVariants as condition
 use Rattle.feed.specs.Retained.{retained, retained_of, stream_in}
 use Rattle.feed.specs.Events.{Event, Given, batch, dictionary, ended, schema, given, event_by}
 use Rattle.feed.specs.States.{FeedState, after_push, finishing_when, fresh, given_when, gives, retained_in}
-use Rattle.feed.specs.StoryLaw.{EventsTellAll, IsBetween, input_end, story_in, rest_story, rest_story_from}
+use Rattle.feed.specs.StoryLaw.{EventsReportAll, IsBetween, input_end, story_in, rest_story, rest_story_from}
 use Rattle.feed.specs.Transcript.{led_by, transcript}
 use Rattle.feed.proofs.CutLemmas.{event_of, event-by, ok-same, partial-uses, whole-uses}
 use Rattle.feed.proofs.StoryLemmas.{
@@ -149,8 +149,8 @@ module _ (laws : FirstMessageLaw) where
 
   -- where a feed stands between two messages, the reading of what is left is what its transcript tells, with the schema
   -- that is known
-  abbrev TellsIn : ℕ → Type 0
-  TellsIn n =
+  abbrev ReportsIn : ℕ → Type 0
+  ReportsIn n =
       (s : FeedState) (bytes : List ℕ) → length bytes ≤ n → IsBetween s
       → rest_story (retained_in s) bytes ≡ with_schema (retained_in s).known.schema (story_in (transcript s bytes))
 
@@ -204,7 +204,7 @@ module _ (laws : FirstMessageLaw) where
         ]
 
   event-folds :
-      (n : ℕ) (s : FeedState) (bytes : List ℕ) (used : ℕ) (e : Event) → TellsIn n → length (drop used bytes) ≤ n
+      (n : ℕ) (s : FeedState) (bytes : List ℕ) (used : ℕ) (e : Event) → ReportsIn n → length (drop used bytes) ≤ n
       → IsBetween s
       → gives s bytes ≡ Ok (given used (Some e))
       → rest_story_from e (retained_in (after_push s bytes (Ok (given used (Some e))))) (drop used bytes)
@@ -248,7 +248,7 @@ module _ (laws : FirstMessageLaw) where
       ∙ ap (λ o. with_schema o (alone (at_end_mark (drop used bytes)))) (schema-next s bytes used ended between is)
       ∙ ap (with_schema (retained_in s).known.schema) (sym (mark-tells t (drop used bytes) refl))
 
-  push-folds : (n : ℕ) (s : FeedState) (b : ℕ) (bs : List ℕ) → TellsIn n → length (b ∷ bs) ≤ suc n → IsBetween s
+  push-folds : (n : ℕ) (s : FeedState) (b : ℕ) (bs : List ℕ) → ReportsIn n → length (b ∷ bs) ≤ suc n → IsBetween s
       → (r : Reading Given) → gives s (b ∷ bs) ≡ r
       → rest_story (retained_in s) (b ∷ bs) ≡ with_schema (retained_in s).known.schema
       (story_in (transcript s (b ∷ bs)))
@@ -271,7 +271,7 @@ module _ (laws : FirstMessageLaw) where
         ∙ ap (λ t. with_schema (retained_in s).known.schema (story_in t))
         (sym (step laws s b bs (Ok (given u (Some e))) at))
 
-  folds : (n : ℕ) → TellsIn n
+  folds : (n : ℕ) → ReportsIn n
   folds n s [] small between = nothing-tells s between
   folds zero s (b ∷ bs) small between = absurd (omega (arith, small))
   folds (suc n) s (b ∷ bs) small between = push-folds n s b bs (folds n) small between (gives s (b ∷ bs)) refl
@@ -280,6 +280,6 @@ module _ (laws : FirstMessageLaw) where
   unfolding retained_of retained
   fresh-between = record { goes_on = refl; none_held = refl }
 
-  pub events-tell-all : EventsTellAll
+  pub events-tell-all : EventsReportAll
   unfolding retained_of retained
   events-tell-all bytes = all-is-story_step bytes ∙ folds (length bytes) (fresh None) bytes (omega arith) fresh-between

@@ -32,7 +32,7 @@ use Rattle.std.proofs.lemmas.List.{get_or-map, length-map, map-append}
 use Rattle.std.proofs.lemmas.List.Elements.{All-append, All-cons}
 use Rattle.values.specs.Datum.{Datum}
 use Rattle.values.specs.Layouts.{Holds}
-use Rattle.values.specs.Reading.{Reading, both, cons, Stands, Fails, with_front}
+use Rattle.values.specs.Reading.{Reading, both, cons, FailsWith, Fails, with_front}
 use Rattle.values.specs.Rose.{Rose, Roses, none, more, join}
 use Rattle.values.specs.declared.faults.StreamFault.{StreamFault}
 use Rattle.values.specs.declared.layout.Layout.{Layout}
@@ -52,8 +52,8 @@ front-one : (xs : List (List Datum)) (x : List Datum) (m : Reading (List (List D
 front-one xs x (Ok ys) = ap (λ zs. Ok zs) (append_assoc xs (x ∷ []) ys)
 front-one xs x (Err fs) = refl
 
-front-fault : (xs : List (List Datum)) (m : Reading (List (List Datum))) (c : StreamFault) → Stands m c
-    → Stands (with_front xs m) c
+front-fault : (xs : List (List Datum)) (m : Reading (List (List Datum))) (c : StreamFault) → FailsWith m c
+    → FailsWith (with_front xs m) c
 front-fault xs (Ok ys) c h = h
 front-fault xs (Err fs) c h = h
 
@@ -75,13 +75,13 @@ columns-more body left rest a made c whole split valid all =
 columns-fault :
     (body : List ℕ) (left rest : Roses ArrayData) (a : Rose ArrayData) (made : List CheckedColumn)
     (c : StreamFault) (whole : Reading (List (List Datum)))
-    → left ≡ more a rest → Stands (column_of body a) c
-    → with_front (cells_in made) (columns_in body left) ≡ whole → Stands whole c
+    → left ≡ more a rest → FailsWith (column_of body a) c
+    → with_front (cells_in made) (columns_in body left) ≡ whole → FailsWith whole c
 unfolding columns_in
 columns-fault body left rest a made c whole split stands all =
     let later : Reading (List (List Datum)) = columns_in body rest in
     let Q : Roses ArrayData → Type 0 = λ ts. with_front (cells_in made) (columns_in body ts) ≡ whole in
-    let P : Reading (List (List Datum)) → Type 0 = λ m. Stands m c in
+    let P : Reading (List (List Datum)) → Type 0 = λ m. FailsWith m c in
     subst P (subst Q split all)
     (front-fault (cells_in made) (both cons (column_of body a) later) c
     (both_left cons (column_of body a) later c stands))

@@ -28,7 +28,7 @@ use Rattle.std.proofs.Common.{
 }
 use Rattle.std.specs.List.{concat}
 use Rattle.values.specs.declared.faults.StreamFault.{StreamFault}
-use Rattle.values.specs.Reading.{Reading, Stands}
+use Rattle.values.specs.Reading.{FailsWith, Reading}
 use Rattle.messages.specs.Laws.{FirstMessageLaw}
 use Rattle.messages.proofs.Feedings.{agree, some_fault}
 use Rattle.feed.specs.Events.{Event, Given}
@@ -57,7 +57,7 @@ follows-led (Some e) events end t f = record { same = ap (λ es. e ∷ es) f.sam
 module _ (laws : FirstMessageLaw) where
   refused-follows :
       (s : FeedState) (piece later : List ℕ) (c : StreamFault) (r : Reading Given) → 0 < length piece
-      → gives s piece ≡ r → Stands r c
+      → gives s piece ≡ r → FailsWith r c
       → Follows [] (Err c) (transcript s (piece ++ later))
   refused-follows s piece later c (Ok g) some is stands = absurd stands
   refused-follows s piece later c (Err fs) some is stands =
@@ -101,7 +101,7 @@ module _ (laws : FirstMessageLaw) where
             → Ends s ((x ∷ xs) ∷ pieces)
         by_reading more (Err fs) is =
             let c = some_fault fs in
-            ([], Err c.0, refused s (x ∷ xs) pieces c.0 (omega arith) (subst (λ r. Stands r c.0) (sym is) c.1))
+            ([], Err c.0, refused s (x ∷ xs) pieces c.0 (omega arith) (subst (λ r. FailsWith r c.0) (sym is) c.1))
         by_reading more (Ok g) is =
             let less = uses-some laws s (x ∷ xs) g.used g.event (omega arith) is in
             let size : length (drop g.used (x ∷ xs)) ≡ length (x ∷ xs) - g.used = length-drop g.used (x ∷ xs) in

@@ -30,7 +30,7 @@ use Rattle.schema_meta.specs.SchemaLaw.{before}
 use Rattle.schema_meta.specs.Sound.{after}
 use Rattle.schema_meta.specs.Stage.{Known, Whole, end_of}
 use Rattle.messages.specs.Handed.{MessageView}
-use Rattle.messages.specs.Run.{run_after, run_of}
+use Rattle.messages.specs.MessageSequence.{message_sequence, sequence_after}
 use Rattle.messages.specs.Stream.{Stream}
 use Rattle.feed.specs.Calls.{message_brings}
 use Rattle.feed.specs.Retained.{Retained, brought, retained, retained_after, retained_of}
@@ -53,15 +53,15 @@ here known ds bytes s is =
 
 retained-run :
     (n : ℕ) (known : Known) (ds : List DictionaryBatch) (bytes : List ℕ) (s : Stream)
-    → (run_of n known bytes).rest ≡ Ok s
-    → retained n known ds bytes ≡ retained_from ds (run_of n known bytes).messages s
-unfolding retained run_of
+    → (message_sequence n known bytes).rest ≡ Ok s
+    → retained n known ds bytes ≡ retained_from ds (message_sequence n known bytes).messages s
+unfolding retained message_sequence
 retained-run zero known ds bytes s is = here known ds bytes s is
 retained-run (suc n) known ds bytes s is = by_first (λ k es xs. retained-run n k es xs s) (first known bytes) is where
-  by_first : ((k : Known) (es : List DictionaryBatch) (xs : List ℕ) → (run_of n k xs).rest ≡ Ok s
-      → retained n k es xs ≡ retained_from es (run_of n k xs).messages s)
-      → (r : Reading (Option Whole)) → (run_after (run_of n) known bytes r).rest ≡ Ok s
-      → retained_after (retained n) known ds bytes r ≡ retained_from ds (run_after (run_of n) known bytes r).messages s
+  by_first : ((k : Known) (es : List DictionaryBatch) (xs : List ℕ) → (message_sequence n k xs).rest ≡ Ok s
+      → retained n k es xs ≡ retained_from es (message_sequence n k xs).messages s)
+      → (r : Reading (Option Whole)) → (sequence_after (message_sequence n) known bytes r).rest ≡ Ok s
+      → retained_after (retained n) known ds bytes r ≡ retained_from ds (sequence_after (message_sequence n) known bytes r).messages s
   by_first later (Ok None) at = here known ds bytes s at
   by_first later (Err fs) at = absurd (cc)
   by_first later (Ok (Some w)) at =
@@ -69,7 +69,7 @@ retained-run (suc n) known ds bytes s is = by_first (λ k es xs. retained-run n 
       let rest : List ℕ = drop (end_of w) bytes in
       later now (ds ++ brought now bytes w) rest at
       ∙ ap (λ es. record { known = s.known; dictionaries = es; held = s.held })
-      (append_assoc ds (brought now bytes w) (flat_map message_brings (run_of n now rest).messages))
+      (append_assoc ds (brought now bytes w) (flat_map message_brings (message_sequence n now rest).messages))
 
 pub retained-by-messages : RetainedByMessages
 unfolding retained_of

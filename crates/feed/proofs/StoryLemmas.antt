@@ -71,12 +71,12 @@ use Rattle.feed.specs.Retained.{Retained, retained, retained_of, brought_by, tak
 use Rattle.feed.specs.Events.{Event, batch, dictionary, ended, schema, Given, given, event_by, reading}
 use Rattle.feed.specs.States.{FeedState, after_push, given_when, gives, retained_in}
 use Rattle.feed.specs.StoryLaw.{
-  AllIsTold,
-  EventTells,
-  FaultsTell,
+  AllIsReported,
+  EventReports,
+  FaultsReport,
   NoneHeld,
   PartialIsHeld,
-  PartialTells,
+  PartialReports,
   StoryKnowsSchema,
   rest_story,
   rest_story_from,
@@ -348,7 +348,7 @@ module _ (laws : FirstMessageLaw) where
   still-known o m (header.Batch h) fields b is = ap (λ x. schema_after o x) b ∙ is
   still-known o m header.End fields b is = ap (λ x. schema_after o x) b ∙ is
 
-  pub event-tells : EventTells
+  pub event-tells : EventReports
   unfolding story_step
   event-tells s bytes used e between is =
       elim (event-by k bytes used e (sym (gives-open s bytes between.goes_on) ∙ is)) [
@@ -398,7 +398,7 @@ module _ (laws : FirstMessageLaw) where
       → with_schema known.schema (ends known end) ≡ ends known end
   with_schema-ends known end = with_schema-same known.schema (ends known end) (λ fields is. is)
 
-  pub partial-tells : PartialTells
+  pub partial-tells : PartialReports
   unfolding story_step
   partial-tells s bytes used between some is =
       let k : Retained = retained_in s in
@@ -454,7 +454,7 @@ module _ (laws : FirstMessageLaw) where
   body-by n (Ok x) fs is = absurd (cc)
   body-by n (Err gs) fs is = cc
 
-  pub faults-tell : FaultsTell
+  pub faults-tell : FaultsReport
   unfolding story_step
   faults-tell s bytes fs between is = elim (read-by k bytes) [
     | by_fault gs found m ↦ of_fault gs found (faults-of gs m)
@@ -510,6 +510,6 @@ module _ (laws : FirstMessageLaw) where
         (schema-same k bytes body w fs w.meta.header (brings k.known bytes w here) at) at)
         ∙ with_schema-ends k.known (Err fs)
 
-pub all-is-story_step : AllIsTold
+pub all-is-story_step : AllIsReported
 unfolding story_of retained_of retained
 all-is-story_step bytes = refl

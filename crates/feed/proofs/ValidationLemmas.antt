@@ -28,7 +28,7 @@ use Rattle.std.specs.Ordering.{int_eq}
 use Rattle.std.proofs.Math.Seq.{take-length}
 use Rattle.values.specs.Datum.{Datum}
 use Rattle.values.specs.Rose.{Rose}
-use Rattle.values.specs.Reading.{Fails, Reading, ◌>>=◌, Stands, mapped}
+use Rattle.values.specs.Reading.{Fails, Reading, ◌>>=◌, FailsWith, mapped}
 use Rattle.values.specs.declared.faults.StreamFault.{StreamFault}
 use Rattle.values.proofs.Readings.{fails_along}
 use Rattle.dictionaries.specs.Batches.{dictionary_after}
@@ -50,15 +50,15 @@ use Rattle.messages.specs.MessageLaw.{Brings, IsMessage, MessageLaw}
 use Rattle.messages.specs.Stream.{Frames, Stream, message_of}
 use Rattle.feed.specs.Retained.{Retained, retained_of, stream_in}
 use Rattle.feed.specs.Events.{Event, batch, event_by, event_in, given, given_by, reading}
-use Rattle.feed.specs.Shown.{HasValues, IsAt, WillBeAt, WillStandAfter}
+use Rattle.feed.specs.Shown.{HasValues, IsAt, WillBeAt, WillHoldAfter}
 use Rattle.feed.specs.Calls.{Adds, message_brings, message_event}
 use Rattle.feed.proofs.RetainedLemmas.{after-partial, after-whole}
 
-stands-bind : {X Y : Type 0} (m : Reading X) (f : X → Reading Y) (c : StreamFault) → Stands m c → Stands (m >>= f) c
+stands-bind : {X Y : Type 0} (m : Reading X) (f : X → Reading Y) (c : StreamFault) → FailsWith m c → FailsWith (m >>= f) c
 stands-bind (Ok x) f c h = absurd h
 stands-bind (Err fs) f c h = h
 
-stands-mapped : {X Y : Type 0} (f : X → Y) (m : Reading X) (c : StreamFault) → Stands m c → Stands (mapped f m) c
+stands-mapped : {X Y : Type 0} (f : X → Y) (m : Reading X) (c : StreamFault) → FailsWith m c → FailsWith (mapped f m) c
 stands-mapped f (Ok x) c h = absurd h
 stands-mapped f (Err fs) c h = h
 
@@ -232,7 +232,7 @@ leads-whole laws declared bytes old new t u piece used m change at c adds =
     let next = after-whole laws declared bytes piece k c.whole used refl c.is c.size in
     subst (λ x. WillBeAt x new u change) (sym next) (
       c.next,
-      subst (λ v. WillStandAfter (k.dictionaries ++ message_brings v) u change) c.seen (adds k.dictionaries at.1),
+      subst (λ v. WillHoldAfter (k.dictionaries ++ message_brings v) u change) c.seen (adds k.dictionaries at.1),
     )
 
 -- The dictionaries' values are of their types also once a message brings a schema: there are none yet.

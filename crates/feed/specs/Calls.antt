@@ -9,7 +9,7 @@ use Rattle.values.specs.declared.col_type.ColType.{ColType}
 use Rattle.values.specs.declared.faults.StreamFault.{StreamFault}
 use Rattle.values.specs.declared.faults.StreamFault.TheVariants as fault
 use Rattle.dictionaries.specs.Batches.{DictionaryBatch}
-use Rattle.dictionaries.specs.Law.{StandsAfter}
+use Rattle.dictionaries.specs.Law.{HoldsAfter}
 use Rattle.dictionaries.specs.Table.{Change, Table}
 use Rattle.schema_meta.specs.BatchHead.{BatchHead}
 use Rattle.schema_meta.specs.declared.header.DictionaryHeader.{DictionaryHeader}
@@ -35,7 +35,7 @@ use Rattle.feed.specs.Shown.{
   Leads,
   Shows,
   WillBeAt,
-  WillStandAfter,
+  WillHoldAfter,
   change_coming,
   event_seen,
   values_next,
@@ -80,7 +80,7 @@ IsFollowed c = c.next ≡ condition_after condition.Opened (Some (event_seen c.e
 
 -- Where some dictionary batches came before, these come to them by a change.
 abbrev pub Adds : Table → Table → Option Change → List DictionaryBatch → Type 0
-Adds old new c more = (ds : List DictionaryBatch) → StandsAfter ds old → WillStandAfter (ds ++ more) new c
+Adds old new c more = (ds : List DictionaryBatch) → HoldsAfter ds old → WillHoldAfter (ds ++ more) new c
 
 -- What is said of an open feed, whatever it keeps that stands there.
 abbrev pub AtEach : Stream → Table → (Retained → Type 0) → Type 0

@@ -1,7 +1,7 @@
 -- A feed whose stream comes in pieces: however it is cut, the events are the same, and the faults.
 use Rattle.std.specs.Prelude.{◌≡◌, ℕ, ◌<◌, ◌++◌, List, [], ◌∷◌, Option, None, Some, Result, Ok, Err, drop, length}
 use Rattle.std.specs.List.{concat}
-use Rattle.values.specs.Reading.{Faults, Yields, Stands}
+use Rattle.values.specs.Reading.{Faults, Yields, FailsWith}
 use Rattle.values.specs.declared.faults.StreamFault.{StreamFault}
 use Rattle.messages.specs.Laws.{AgreeIn}
 use Rattle.feed.specs.Events.{Event, Given}
@@ -30,7 +30,7 @@ pub data Feeds : FeedState → List (List ℕ) → List Event → End → Type 0
       → Feeds s (piece ∷ pieces) (with_event g.event events) end
   -- A push is refused.
   refused : (s : FeedState) (piece : List ℕ) (pieces : List (List ℕ)) (c : StreamFault) → 0 < length piece
-      → Stands (gives s piece) c → Feeds s (piece ∷ pieces) [] (Err c)
+      → FailsWith (gives s piece) c → Feeds s (piece ∷ pieces) [] (Err c)
 
 -- Where no byte is left there is no event.
 abbrev pub NothingLeft : Type 0

@@ -4,7 +4,7 @@ use Rattle.values.specs.Logical.{NamedType}
 use Rattle.values.specs.Rose.{Rose}
 use Rattle.schema_meta.specs.SchemaLaw.{before}
 use Rattle.messages.specs.Handed.{MessageView}
-use Rattle.messages.specs.Run.{whole_run}
+use Rattle.messages.specs.MessageSequence.{whole_sequence}
 use Rattle.messages.specs.Stream.{Stream}
 use Rattle.feed.specs.Calls.{message_brings}
 use Rattle.feed.specs.Retained.{Retained, retained_of}
@@ -17,5 +17,5 @@ retained_by messages s = record { known = s.known; dictionaries = flat_map messa
 abbrev pub RetainedByMessages : Type 0
 RetainedByMessages =
     (declared : Option (List (Rose NamedType))) (bytes : List ℕ) (s : Stream)
-    → (whole_run (before declared) bytes).rest ≡ Ok s
-    → retained_of declared bytes ≡ retained_by (whole_run (before declared) bytes).messages s
+    → (whole_sequence (before declared) bytes).rest ≡ Ok s
+    → retained_of declared bytes ≡ retained_by (whole_sequence (before declared) bytes).messages s

@@ -28,7 +28,7 @@ use Rattle.values.specs.declared.faults.StreamFault.{StreamFault}
 use Rattle.arrays.specs.Checked.{CheckedColumn}
 use Rattle.dictionaries.specs.Batches.{DictionaryBatch, found_after}
 use Rattle.dictionaries.specs.Table.{Change, HasRoom, Table, change_code, found, table_code, values_in}
-use Rattle.dictionaries.specs.Law.{StandsAfter}
+use Rattle.dictionaries.specs.Law.{HoldsAfter}
 use Rattle.schema_meta.specs.Entry.{Entry}
 use Rattle.schema_meta.specs.FieldLayouts.{layouts_of}
 use Rattle.schema_meta.specs.FieldsLaw.{AreFields}
@@ -64,7 +64,7 @@ parts_code =
 
 -- an open feed has just what is kept
 abbrev pub IsAt : Retained → Stream → Table → Type 0
-IsAt k stream t = (stream ≡ stream_in k) × StandsAfter k.dictionaries t
+IsAt k stream t = (stream ≡ stream_in k) × HoldsAfter k.dictionaries t
 
 abbrev pub breaks : FeedParts → Bool
 breaks f = is_broken f.condition
@@ -72,7 +72,7 @@ breaks f = is_broken f.condition
 -- The feed is in this state.
 pub record Shows (f : FeedParts) (s : FeedState) : Type 0 where
   pub stream : f.framing.current ≡ stream_in (retained_in s)
-  pub dictionaries : StandsAfter (retained_in s).dictionaries f.table
+  pub dictionaries : HoldsAfter (retained_in s).dictionaries f.table
   pub condition : f.condition ≡ s.condition
 
 -- the values of an id once a change is made
@@ -84,17 +84,17 @@ abbrev pub values_next : Table → Option Change → ℤ → List Datum
 values_next t None id = values_in t id
 values_next t (Some c) id = if int_eq c.id id then c.values else values_in t id
 
-abbrev pub WillStandAfter : List DictionaryBatch → Table → Option Change → Type 0
-WillStandAfter bs t c = (id : ℤ) → found_next t c id ≡ found_after bs id
+abbrev pub WillHoldAfter : List DictionaryBatch → Table → Option Change → Type 0
+WillHoldAfter bs t c = (id : ℤ) → found_next t c id ≡ found_after bs id
 
 -- an open feed will have just what is kept, once a change is made
 abbrev pub WillBeAt : Retained → Stream → Table → Option Change → Type 0
-WillBeAt k stream t c = (stream ≡ stream_in k) × WillStandAfter k.dictionaries t c
+WillBeAt k stream t c = (stream ≡ stream_in k) × WillHoldAfter k.dictionaries t c
 
 -- The feed will be in this state, once the prepared change is committed.
 pub record Leads (f : FeedParts) (s : FeedState) : Type 0 where
   pub stream : f.framing.prepared ≡ stream_in (retained_in s)
-  pub dictionaries : WillStandAfter (retained_in s).dictionaries f.table f.change
+  pub dictionaries : WillHoldAfter (retained_in s).dictionaries f.table f.change
   pub condition : f.next ≡ s.condition
 
 -- Nothing is prepared: a commit leads to the state in which the feed is.

@@ -21,7 +21,7 @@ use Rattle.std.specs.Prelude.{
   length,
   take,
 }
-use Rattle.values.specs.Reading.{Reading, Passes, Stands, one}
+use Rattle.values.specs.Reading.{Reading, Passes, FailsWith, one}
 use Rattle.values.specs.Rose.{Rose}
 use Rattle.values.specs.declared.faults.StreamFault.{StreamFault}
 use Rattle.values.specs.declared.faults.StreamFault.TheVariants as fault
@@ -75,7 +75,7 @@ MayLack _ piece = ⊥
 unfoldable pub Gives : FeedState → List ℕ → Result Given StreamFault → Type 0
 Gives s piece (Ok g) = gives s piece ≡ Ok g
 Gives s piece (Err fault.Memory) = MayLack s.condition piece
-Gives s piece (Err c) = Stands (gives s piece) c
+Gives s piece (Err c) = FailsWith (gives s piece) c
 
 abbrev pub condition_after : Condition → Option Event → Condition
 condition_after c (Some ended) = condition.Ended

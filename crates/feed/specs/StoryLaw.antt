@@ -29,8 +29,8 @@ pub record IsBetween (s : FeedState) : Type 0 where
   pub goes_on : s.condition ≡ condition.Opened
   pub none_held : (retained_in s).held ≡ []
 
-abbrev pub EventTells : Type 0
-EventTells =
+abbrev pub EventReports : Type 0
+EventReports =
     (s : FeedState) (bytes : List ℕ) (used : ℕ) (e : Event) → IsBetween s → gives s bytes ≡ Ok (given used (Some e))
     → rest_story (retained_in s) bytes ≡ rest_story_from e (retained_in (after_push s bytes (Ok (given used (Some e)))))
     (drop used bytes)
@@ -48,19 +48,19 @@ PartialIsHeld =
     (s : FeedState) (bytes : List ℕ) (used : ℕ) → s.condition ≡ condition.Opened → gives s bytes ≡ Ok (given used None)
     → (retained_in (after_push s bytes (Ok (given used None)))).held ≡ (retained_in s).held ++ bytes
 
-abbrev pub FaultsTell : Type 0
-FaultsTell =
+abbrev pub FaultsReport : Type 0
+FaultsReport =
     (s : FeedState) (bytes : List ℕ) (fs : Faults) → IsBetween s → gives s bytes ≡ Err fs
     → rest_story (retained_in s) bytes ≡ ends (retained_in s).known (Err fs)
 
 -- An incomplete message alone is no whole stream: it is Truncated.
-abbrev pub PartialTells : Type 0
-PartialTells =
+abbrev pub PartialReports : Type 0
+PartialReports =
     (s : FeedState) (bytes : List ℕ) (used : ℕ) → IsBetween s → 0 < length bytes → gives s bytes ≡ Ok (given used None)
     → rest_story (retained_in s) bytes ≡ ends (retained_in s).known (Err (one fault.Truncated))
 
-abbrev pub AllIsTold : Type 0
-AllIsTold = (bytes : List ℕ) → story_of bytes ≡ rest_story (retained_in (fresh None)) bytes
+abbrev pub AllIsReported : Type 0
+AllIsReported = (bytes : List ℕ) → story_of bytes ≡ rest_story (retained_in (fresh None)) bytes
 
 -- Once there is a schema, it is that of the stream.
 abbrev pub StoryKnowsSchema : Type 0
@@ -90,5 +90,5 @@ abbrev pub story_in : Transcript → Story
 story_in t = record { schema = schema_in t.events; rows = flat_map rows_at t.events; end = input_end t.end }
 
 -- The reading of a whole stream is what its transcript tells.
-abbrev pub EventsTellAll : Type 0
-EventsTellAll = (bytes : List ℕ) → story_of bytes ≡ story_in (transcript (fresh None) bytes)
+abbrev pub EventsReportAll : Type 0
+EventsReportAll = (bytes : List ℕ) → story_of bytes ≡ story_in (transcript (fresh None) bytes)

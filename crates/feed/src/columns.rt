@@ -18,10 +18,10 @@ ghost use Rattle.feed.specs.Columns.{cells_in, layouts_in};
 ghost use Rattle.feed.specs.Shown.{HasColumns};
 ghost use Rattle.feed.specs.Calls.{batch_columns};
 
-use array_layout::Array;
+use array_layout::{Array, ArrayCursor};
 use arrays::Column;
 use dictionaries::Dicts;
-use schema_meta::{ArrayCursor, BatchHeader, Field, StreamSchema, place_array, place_law};
+use schema_meta::{BatchHeader, Field, StreamSchema, place_array, place_law};
 use std::alloc::Global;
 use std::rc::Rc;
 use values::StreamFault;

@@ -4,13 +4,13 @@ ghost use Rattle.feed.specs.CutLaw.{FaultsStay, PartialJoins, PartialUses, Whole
 ghost use Rattle.feed.specs.RetainedLaw.{RetainedByMessages};
 ghost use Rattle.feed.specs.Pieces.{CutsAgree, FeedFollows, FeedsEnd, NothingLeft, PushKeeps, RefusalEnds};
 ghost use Rattle.feed.specs.StoryLaw.{
-  AllIsTold,
-  EventTells,
-  EventsTellAll,
-  FaultsTell,
+  AllIsReported,
+  EventReports,
+  EventsReportAll,
+  FaultsReport,
   NoneHeld,
   PartialIsHeld,
-  PartialTells,
+  PartialReports,
   StoryKnowsSchema,
 };
 
@@ -52,14 +52,14 @@ pub fn retained_law()
 /// The events of a feed make the reading of the whole stream: event by event, that of the bytes that are left is the
 /// event and then the reading of the rest; and by `events`, the reading of a stream is that of all its events.
 pub fn story_law()
-    ensures all { AllIsTold }
-    ensures event { EventTells }
+    ensures all { AllIsReported }
+    ensures event { EventReports }
     ensures held { NoneHeld }
     ensures partial_held { PartialIsHeld }
-    ensures faults { FaultsTell }
-    ensures partial { PartialTells }
+    ensures faults { FaultsReport }
+    ensures partial { PartialReports }
     ensures knows { StoryKnowsSchema }
-    ensures events { EventsTellAll }
+    ensures events { EventsReportAll }
 {
     first_message_law();
 }

@@ -36,10 +36,10 @@ use Rattle.group_state.specs.Groups.{Keeps as KeepsGroups, KeepsAt}
 use Rattle.group_state.specs.Keys.{tuple_cmp, tuple_total, data_of, datum_in}
 use Rattle.group_state.specs.Reading.{AreRead, CanReadAll}
 use Rattle.group_state.specs.Folds.{first_of, last_of}
-use Rattle.group_state.specs.KeptColumns.{counted, valued}
+use Rattle.group_state.specs.AccumulatedColumns.{counted, valued}
 use Rattle.group_state.specs.Seen.{seen_count, seen_distinct, seen_greatest, seen_in, seen_least, seen_sum, sum_by, tally_at}
 use Rattle.group_state.specs.Aggregates.{seen_cell, seen_row}
-use Rattle.group_state.specs.declared.kept_columns.KeptColumn.{KeptColumn}
+use Rattle.group_state.specs.declared.accumulated_columns.AccumulatedColumn.{AccumulatedColumn}
 use Rattle.group_state.specs.declared.tally.Tally.{Tally}
 use Rattle.group_state.specs.declared.tally.Tally.TheVariants as tally
 use Rattle.group_state.proofs.GroupLaw.{all-read}
@@ -48,8 +48,8 @@ use Rattle.group_state.proofs.Seen.{seen-read}
 use Rattle.top_rows.specs.Ties.{has_sort_keys, named, stands_by}
 use Rattle.top_rows.specs.ViewOrder.{OrdersKeys}
 use Rattle.top_rows.proofs.Ties.{first-named, keeps-same}
-use Rattle.group_order.specs.GroupPlaces.{group_place_cmp}
-use Rattle.group_order.specs.Ranked.{Keeps, Ranked, Ranking, has_places, if_passing, placed_at, ranked_rows, ranking_by, shown_at}
+use Rattle.group_order.specs.GroupEntries.{group_entry_cmp}
+use Rattle.group_order.specs.Ranked.{Keeps, Ranked, Ranking, has_entries, if_passing, placed_at, ranked_rows, ranking_by, shown_at}
 
 -- What is shown of groups is neither a list nor a struct.
 
@@ -97,7 +97,7 @@ in-cell : (f : Tally → Datum) (o : Option Tally) → ((t : Tally) → IsKeyCel
 in-cell f None h = refl
 in-cell f (Some t) h = h t
 
-one-cell : (columns : List KeptColumn) (e : List Key × GroupCounts) (a : Aggregate)
+one-cell : (columns : List AccumulatedColumn) (e : List Key × GroupCounts) (a : Aggregate)
     → IsKeyCell (seen_cell columns e a)
 one-cell columns e (aggregate.Key k) = data-cell e.0 k
 one-cell columns e aggregate.Count = refl
@@ -107,18 +107,18 @@ one-cell columns e (aggregate.Sum k) = in-cell seen_sum (tally_at columns e.1.ta
 one-cell columns e (aggregate.Least k) = in-cell seen_least (tally_at columns e.1.tallies (valued k)) least-of
 one-cell columns e (aggregate.Greatest k) = in-cell seen_greatest (tally_at columns e.1.tallies (valued k)) greatest-of
 
-each-cell : (columns : List KeptColumn) (outs : List GroupOutput) (e : List Key × GroupCounts) (k : ℕ)
+each-cell : (columns : List AccumulatedColumn) (outs : List GroupOutput) (e : List Key × GroupCounts) (k : ℕ)
     → IsKeyCell (cell_at (seen_row columns outs e) k)
 each-cell columns [] e k = refl
 each-cell columns (o ∷ os) e zero = one-cell columns e o.aggregate
 each-cell columns (o ∷ os) e (suc k) = each-cell columns os e k
 
-ordered-cells : (columns : List KeptColumn) (outs : List GroupOutput) (e : List Key × GroupCounts) (order : List OrderBy)
+ordered-cells : (columns : List AccumulatedColumn) (outs : List GroupOutput) (e : List Key × GroupCounts) (order : List OrderBy)
     → OrdersKeys order (seen_row columns outs e)
 ordered-cells columns outs e [] = tt
 ordered-cells columns outs e (o ∷ os) = (each-cell columns outs e o.column, ordered-cells columns outs e os)
 
-module _ (columns : List KeptColumn) (outs : List GroupOutput) where
+module _ (columns : List AccumulatedColumn) (outs : List GroupOutput) where
   -- the rows that are shown of groups, by their tuples
   abbrev pub shown : List (List Key × GroupCounts) → List (List Key × List Datum)
   shown es = map (λ e. (e.0, seen_row columns outs e)) es
@@ -248,11 +248,11 @@ passing-at having t (e ∷ es) up =
 -- The rows of the first places are the first group rows that pass, sorted, those that tie by their tuples.
 pub first-ranked : TuplesAsk → TuplesAscend → TuplesAreOfRows → (s : Ranked) (rows : List (List Datum)) (n : ℕ)
     → Keeps s rows → CanReadAll s.groups.keys s.groups.columns s.ranking.outputs rows
-    → IsStrictlySortedBy tuple_cmp (keys_of s.groups.groups) → IsStrictlySortedBy group_place_cmp s.places
-    → has_places s.ranking ≡ true → ((length s.groups.keys ≡ 0) × (length s.groups.groups ≡ 0) → ⊥)
-    → filter_map (shown_at s.ranking s.groups) (map (λ p. p.1) (take n s.places))
+    → IsStrictlySortedBy tuple_cmp (keys_of s.groups.groups) → IsStrictlySortedBy group_entry_cmp s.entries
+    → has_entries s.ranking ≡ true → ((length s.groups.keys ≡ 0) × (length s.groups.groups ≡ 0) → ⊥)
+    → filter_map (shown_at s.ranking s.groups) (map (λ p. p.1) (take n s.entries))
     ≡ take n (ranked_rows s.groups.keys s.ranking rows)
-first-ranked ask ascend of_rows s rows n k can up places_up kept bare =
+first-ranked ask ascend of_rows s rows n k can up entries_up kept bare =
     let r : Ranking = s.ranking in
     let all : List (List Key × List Datum) = shown s.groups.columns r.outputs s.groups.groups in
     let all_up : IsStrictlySortedBy tuple_cmp (keys_of all) =
@@ -262,15 +262,15 @@ first-ranked ask ascend of_rows s rows n k can up places_up kept bare =
     let same : (t : List Key) → at t ≡ named tuple_cmp es t =
     λ t. ap (if_passing r.having) (shown-at s.groups.columns r.outputs t s.groups.groups)
     ∙ passing-at r.having t all all_up in
-    let ts : List (List Key) = map (λ p. p.1) (take n s.places) in
+    let ts : List (List Key) = map (λ p. p.1) (take n s.entries) in
     let rows_are : values_of es ≡ filter (passes r.having) (group_rows s.groups.keys r.outputs rows) =
     passing-rows r.having all
     ∙ ap (filter (passes r.having))
     (all-read s.groups r.outputs rows k.groups_are can ask ascend of_rows s.groups.columns s.groups.groups
     (values_of all) refl refl up (shown-read s.groups.columns r.outputs s.groups.groups) bare) in
     let firsts : map (named tuple_cmp es) ts ≡ map Some (take n (sorted (row_cmp r.order) (values_of es))) =
-    first-named tuple_cmp tuple_total tuple_exact r.order s.places es n (passing-ascends r.having all all_up) places_up
-    (keeps-same tuple_cmp tuple_total tuple_exact r.order s.places (placed_at r s.groups) (named tuple_cmp es)
+    first-named tuple_cmp tuple_total tuple_exact r.order s.entries es n (passing-ascends r.having all all_up) entries_up
+    (keeps-same tuple_cmp tuple_total tuple_exact r.order s.entries (placed_at r s.groups) (named tuple_cmp es)
     (λ t. ap (λ b. cond b (at t) None) kept ∙ same t) k.ranked)
     (passing-ordered r.having r.order all (shown-ordered s.groups.columns r.outputs r.order s.groups.groups)) in
     made-of at ts _
@@ -323,7 +323,7 @@ bare-first s g r made shown taken n a b none cut passed read rows k can =
     ∙ sym (one-sorted r.order r.having g.keys r.outputs rows none))
     ∙ ap (λ y. take n (ranked_rows y.keys r rows)) a ∙ ap (λ x. take n (ranked_rows s.groups.keys x rows)) b
 
-none-there : {X : Type 0} (f : GroupCounts → X) (columns : List KeptColumn) (o : Option GroupCounts) → KeepsAt columns [] o
+none-there : {X : Type 0} (f : GroupCounts → X) (columns : List AccumulatedColumn) (o : Option GroupCounts) → KeepsAt columns [] o
     → option_map f o ≡ None
 none-there f columns None h = refl
 none-there f columns (Some g) h = absurd (omega (arith, h.0, h.1.rows_are))
@@ -333,14 +333,14 @@ none-either true h = h
 none-either false h = refl
 
 -- Of no rows no place is kept.
-pub none-ranked : (s : Ranked) → s.places ≡ [] → KeepsGroups s.groups [] → Keeps s []
+pub none-ranked : (s : Ranked) → s.entries ≡ [] → KeepsGroups s.groups [] → Keeps s []
 none-ranked s e k = record {
   groups_are = k;
   ranked = record {
-    places_are = λ p.
+    entries_are = λ p.
         ap (λ ps. stands_by tuple_cmp ps p) e
         ∙ ap (has_sort_keys s.ranking.order p.0)
-        (sym (none-either (has_places s.ranking)
+        (sym (none-either (has_entries s.ranking)
         (ap (if_passing s.ranking.having) (none-there (λ c. seen_row s.groups.columns s.ranking.outputs (p.1, c))
         s.groups.columns (lookup (is_at (tuple_cmp p.1)) s.groups.groups) (k.groups_are p.1)))));
   };
@@ -364,7 +364,7 @@ all-pass [] = refl
 all-pass (row ∷ rows) = ap (λ l. row ∷ l) (all-pass rows)
 
 unranked : (by : List ℕ) (outs : List GroupOutput) (h : Option Filter) (os : List OrderBy)
-    (rows : List (List Datum)) → has_places (ranking_by outs h os) ≡ false
+    (rows : List (List Datum)) → has_entries (ranking_by outs h os) ≡ false
     → ranked_rows by (ranking_by outs h os) rows ≡ group_rows by outs rows
 unranked by outs None [] rows e =
     ap (sorted (row_cmp [])) (all-pass (group_rows by outs rows)) ∙ all-stand (group_rows by outs rows)
@@ -373,7 +373,7 @@ unranked by outs (Some f) os rows e = absurd (true≢false e)
 
 -- Where no places are kept, the first rows of the groups are the first that are shown.
 pub first-unranked : (s : Ranked) (g : Grouped) (outs : List GroupOutput) (made : List (List Datum)) (n : ℕ)
-    → has_places s.ranking ≡ false → g ≡ s.groups → outs ≡ s.ranking.outputs
+    → has_entries s.ranking ≡ false → g ≡ s.groups → outs ≡ s.ranking.outputs
     → ((rows : List (List Datum)) → KeepsGroups g rows → CanReadAll g.keys g.columns outs rows
     → made ≡ take n (group_rows g.keys outs rows))
     → (rows : List (List Datum)) → Keeps s rows

@@ -1,3 +1,3 @@
-pub mod GroupPlaces
+pub mod GroupEntries
 pub mod Ranked
 pub mod RankedParts

@@ -16,9 +16,9 @@ use Rattle.group_state.specs.Groups.{Keeps as KeepsGroups}
 use Rattle.group_state.specs.Keys.{tuple_cmp}
 use Rattle.group_state.specs.Aggregates.{seen_at}
 use Rattle.top_rows.specs.SortKeys.{sort_keys_of}
-use Rattle.top_rows.specs.Ties.{KeepsBy, is_place_by, pick, stands_by, without}
+use Rattle.top_rows.specs.Ties.{KeepsBy, is_entry_by, pick, stands_by, without}
 use Rattle.top_rows.specs.declared.sort_key.SortKey.{SortKey}
-use Rattle.group_order.specs.GroupPlaces.{GroupPlace, group_place_cmp}
+use Rattle.group_order.specs.GroupEntries.{GroupEntry, group_entry_cmp}
 
 -- what is shown of groups, of which of them, and in which order
 pub record Ranking : Type 0 where
@@ -33,7 +33,7 @@ ranking_by outputs having order = record { outputs = outputs; having = having; o
 pub record Ranked : Type 0 where
   pub groups : Grouped
   pub ranking : Ranking
-  pub places : List GroupPlace
+  pub entries : List GroupEntry
 
 abbrev pub if_passing : Option Filter → Option (List Datum) → Option (List Datum)
 if_passing having None = None
@@ -44,26 +44,26 @@ abbrev pub shown_at : Ranking → Grouped → List Key → Option (List Datum)
 shown_at r g t = if_passing r.having (seen_at r.outputs g t)
 
 -- Places are kept where there is an order or a filter. Else all groups are shown, in their own order.
-abbrev pub has_places : Ranking → Bool
-has_places r = is_some r.having || nat_lt 0 (length r.order)
+abbrev pub has_entries : Ranking → Bool
+has_entries r = is_some r.having || nat_lt 0 (length r.order)
 
 -- the row that a tuple's group has a place by
 abbrev pub placed_at : Ranking → Grouped → List Key → Option (List Datum)
-placed_at r g t = cond (has_places r) (shown_at r g t) None
+placed_at r g t = cond (has_entries r) (shown_at r g t) None
 
 -- the sort keys that a group's row has a place by, if it has a place
 abbrev pub keys_read : Ranking → List Datum → Option (List SortKey)
-keys_read r row = cond (has_places r) (option_map (sort_keys_of r.order) (if_passing r.having (Some row))) None
+keys_read r row = cond (has_entries r) (option_map (sort_keys_of r.order) (if_passing r.having (Some row))) None
 
 -- the place of a tuple's row with these sort keys, if there are such
-abbrev pub named : List Key → Option (List SortKey) → Option GroupPlace
+abbrev pub named : List Key → Option (List SortKey) → Option GroupEntry
 named t None = None
 named t (Some keys) = Some (keys, t)
 
 -- whether there is a place, and it is this one
-abbrev pub is_there : Option GroupPlace → GroupPlace → Bool
+abbrev pub is_there : Option GroupEntry → GroupEntry → Bool
 is_there None p = false
-is_there (Some q) p = is_at (group_place_cmp q) p
+is_there (Some q) p = is_at (group_entry_cmp q) p
 
 -- the rows that are shown of the groups of some rows, in their order
 abbrev pub ranked_rows : List ℕ → Ranking → List (List Datum) → List (List Datum)
@@ -71,7 +71,7 @@ ranked_rows by r rows = sorted (row_cmp r.order) (filter (passes r.having) (grou
 
 -- The places are those of the rows that are shown of the groups, and no others; there are none where none are kept.
 abbrev pub IsRanked : Ranked → Type 0
-IsRanked s = KeepsBy tuple_cmp s.ranking.order s.places (placed_at s.ranking s.groups)
+IsRanked s = KeepsBy tuple_cmp s.ranking.order s.entries (placed_at s.ranking s.groups)
 
 -- The groups are those of these rows, and the order is theirs.
 pub record Keeps (s : Ranked) (rows : List (List Datum)) : Type 0 where
@@ -79,24 +79,24 @@ pub record Keeps (s : Ranked) (rows : List (List Datum)) : Type 0 where
   pub ranked : IsRanked s
 
 -- These places went, and those came; where the first were there.
-abbrev pub AreExchanged : (GroupPlace → Bool) → (GroupPlace → Bool) → List GroupPlace → List GroupPlace → Type 0
+abbrev pub AreExchanged : (GroupEntry → Bool) → (GroupEntry → Bool) → List GroupEntry → List GroupEntry → Type 0
 AreExchanged before after old new =
-    ((p : GroupPlace) → before p ≡ true → stands_by tuple_cmp old p ≡ true)
-    → (p : GroupPlace)
+    ((p : GroupEntry) → before p ≡ true → stands_by tuple_cmp old p ≡ true)
+    → (p : GroupEntry)
     → stands_by tuple_cmp new p ≡ cond (after p) true (cond (before p) false (stands_by tuple_cmp old p))
 
 -- These are the places that were kept, but that of a tuple's row is there, or isn't.
-abbrev pub AreWithPlace : Bool → Ranked → List Key → List GroupPlace → Type 0
-AreWithPlace there s t places =
-    (p : GroupPlace)
-    → stands_by tuple_cmp places p
-    ≡ cond (is_place_by tuple_cmp s.ranking.order t (placed_at s.ranking s.groups t) p) there
-    (stands_by tuple_cmp s.places p)
+abbrev pub AreWithEntry : Bool → Ranked → List Key → List GroupEntry → Type 0
+AreWithEntry there s t entries =
+    (p : GroupEntry)
+    → stands_by tuple_cmp entries p
+    ≡ cond (is_entry_by tuple_cmp s.ranking.order t (placed_at s.ranking s.groups t) p) there
+    (stands_by tuple_cmp s.entries p)
 
 -- The places of these tuples' rows came: there were none of them before.
-abbrev pub AreWithAll : Ranked → List (List Key) → List GroupPlace → Type 0
-AreWithAll s ts places =
+abbrev pub AreWithAll : Ranked → List (List Key) → List GroupEntry → Type 0
+AreWithAll s ts entries =
     (before : List Key → Option (List Datum))
-    → KeepsBy tuple_cmp s.ranking.order s.places (without tuple_cmp ts before)
-    → KeepsBy tuple_cmp s.ranking.order places
+    → KeepsBy tuple_cmp s.ranking.order s.entries (without tuple_cmp ts before)
+    → KeepsBy tuple_cmp s.ranking.order entries
     (pick tuple_cmp ts (placed_at s.ranking s.groups) (without tuple_cmp ts before))

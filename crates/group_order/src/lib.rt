@@ -5,11 +5,11 @@
 //! places are the first of the definition's group rows is the clause of `first_rows`.
 #![tactic(auto)]
 
+mod entry;
 mod parts;
-mod place;
 mod ranked;
 mod ranking;
 
-pub use parts::{GroupPlaceParts, RankedParts};
+pub use parts::{GroupEntryParts, RankedParts};
 pub use ranked::RankedGroups;
 pub use ranking::Ranking;

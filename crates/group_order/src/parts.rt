@@ -11,12 +11,12 @@ use values::Key;
 pub struct RankedParts {
     pub groups: GroupsParts,
     pub ranking: Ranking,
-    pub places: Vec<GroupPlaceParts>,
+    pub entries: Vec<GroupEntryParts>,
 }
 
 /// The place of a group's row: its sort key for each of the order's columns, and the keys of the group's tuple.
 #[derive(Debug, Drop)]
-pub struct GroupPlaceParts {
+pub struct GroupEntryParts {
     pub sort_keys: Vec<SortKey>,
     pub tuple: Vec<Key>,
 }

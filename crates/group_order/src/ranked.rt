@@ -28,19 +28,19 @@ ghost use Rattle.view_lang.specs.Cells.{rows_of};
 ghost use Rattle.view_lang.specs.Limits.{max_appended_rows};
 ghost use Rattle.view_lang.specs.Shifts.{Fits, FollowsShift, IsFew, NumberedRows, patched, row_at, shift};
 ghost use Rattle.group_state.specs.Keys.{tuple_cmp};
-ghost use Rattle.group_state.specs.Aggregates.{AreReadBy, IsKept};
+ghost use Rattle.group_state.specs.Aggregates.{AreReadBy, IsAccumulated};
 ghost use Rattle.group_state.specs.Moves.{CanGiveUp, CanTakeIn, GivesUp, TakesIn};
 ghost use Rattle.group_state.specs.Reading.{WhereRead};
 ghost use Rattle.group_state.specs.Tuples.{tuple_of as tuple_by};
-ghost use Rattle.top_rows.specs.Ties.{KeepsBy, place_by, without};
-ghost use Rattle.group_order.specs.GroupPlaces.{GroupPlace as PlaceSeen, group_place_cmp};
+ghost use Rattle.top_rows.specs.Ties.{KeepsBy, entry_by, without};
+ghost use Rattle.group_order.specs.GroupEntries.{GroupEntry as EntrySeen, group_entry_cmp};
 ghost use Rattle.group_order.specs.Ranked.{
   AreExchanged,
   AreWithAll,
-  AreWithPlace,
+  AreWithEntry,
   IsRanked,
   Keeps,
-  has_places,
+  has_entries,
   is_there,
   named,
   placed_at,
@@ -49,10 +49,10 @@ ghost use Rattle.group_order.specs.Ranked.{
 };
 ghost use Rattle.group_order.specs.RankedParts.{AreRanked, ranked_with};
 
+use crate::entry::GroupEntry;
 use crate::parts::RankedParts;
-use crate::place::GroupPlace;
 use crate::ranking::Ranking;
-use group_state::{Group, GroupReader, GroupRow, Groups, KeptColumn, NoReader, Tuple};
+use group_state::{AccumulatedColumn, Group, GroupReader, GroupRow, Groups, NoReader, Tuple};
 use std::alloc::{AllocError, Global};
 use std::collections::BTreeSet;
 use std::marker::Model;
@@ -66,7 +66,7 @@ pub struct RankedGroups {
     alloc: Global,
     groups: Groups,
     ranking: Ranking,
-    places: BTreeSet<GroupPlace>,
+    entries: BTreeSet<GroupEntry>,
 }
 
 impl Model for RankedGroups {
@@ -82,7 +82,7 @@ impl Model for RankedGroups {
     ghost view = { λ r. record {
       groups = r.groups;
       ranking = r.ranking;
-      places = r.places.keys;
+      entries = r.entries.keys;
     } };
 }
 
@@ -91,7 +91,7 @@ impl RankedGroups {
     pub fn new(alloc: Global, by: &[usize], ranking: Ranking) -> Result<RankedGroups, AllocError>
         ensures keys { IfOk result (λ ranked. ranked.groups.keys ≡ by.now) }
         ensures columns { IfOk result
-            (λ ranked. All (λ o. IsKept ranked.groups.columns o.aggregate) ranking.outputs) }
+            (λ ranked. All (λ o. IsAccumulated ranked.groups.columns o.aggregate) ranking.outputs) }
         ensures read { IfOk result (λ ranked. AreReadBy ranking.outputs ranked.groups.columns) }
         ensures ranking { IfOk result (λ ranked. ranked.ranking ≡ ranking) }
         ensures kept { IfOk result (λ ranked. Keeps ranked []) }
@@ -101,7 +101,7 @@ impl RankedGroups {
             alloc,
             groups,
             ranking,
-            places: BTreeSet::new(alloc),
+            entries: BTreeSet::new(alloc),
         })
     }
 
@@ -114,17 +114,17 @@ impl RankedGroups {
             alloc,
             groups,
             ranking,
-            places,
+            entries,
         } = self;
         let groups = groups.into_parts()?;
-        let mut taken = Vec::with_capacity(alloc, places.len())?;
-        for place in places {
-            taken.push(place.into_parts(alloc)?)?;
+        let mut taken = Vec::with_capacity(alloc, entries.len())?;
+        for entry in entries {
+            taken.push(entry.into_parts(alloc)?)?;
         }
         Ok(RankedParts {
             groups,
             ranking,
-            places: taken,
+            entries: taken,
         })
     }
 
@@ -136,18 +136,18 @@ impl RankedGroups {
         let RankedParts {
             groups,
             ranking,
-            places,
+            entries,
         } = parts;
         let groups = Groups::from_parts(alloc, groups)?;
         let mut placed = BTreeSet::new(alloc);
-        for place in places {
-            placed.insert(GroupPlace::from_parts(alloc, place))?;
+        for entry in entries {
+            placed.insert(GroupEntry::from_parts(alloc, entry))?;
         }
         Ok(RankedGroups {
             alloc,
             groups,
             ranking,
-            places: placed,
+            entries: placed,
         })
     }
 
@@ -179,7 +179,7 @@ impl RankedGroups {
     /// The sort keys of the row that is shown of a tuple's group, if there is one and places are kept.
     fn sort_keys_of(&self, tuple: &Tuple) -> Result<Option<SortKeyList>, AllocError>
         ensures { IfOk result (λ keys. named tuple.now keys ≡ option_map
-            (place_by tuple_cmp self.now.ranking.order tuple.now)
+            (entry_by tuple_cmp self.now.ranking.order tuple.now)
             (placed_at self.now.ranking self.now.groups tuple.now)) }
     {
         match self.groups.row(self.ranking.outputs(), tuple) {
@@ -189,15 +189,15 @@ impl RankedGroups {
     }
 
     /// The place of the row that is shown of a tuple's group, if there is one and places are kept.
-    fn place_of(&self, tuple: &Tuple) -> Result<Option<GroupPlace>, AllocError>
-        ensures { IfOk result (λ place. place ≡ option_map (place_by tuple_cmp self.now.ranking.order tuple.now)
+    fn entry_of(&self, tuple: &Tuple) -> Result<Option<GroupEntry>, AllocError>
+        ensures { IfOk result (λ entry. entry ≡ option_map (entry_by tuple_cmp self.now.ranking.order tuple.now)
             (placed_at self.now.ranking self.now.groups tuple.now)) }
     {
         let Some(keys) = self.sort_keys_of(tuple)? else {
             return Ok(None);
         };
         let tuple = tuple.copy(self.alloc)?;
-        Ok(Some(GroupPlace::new(keys, tuple)))
+        Ok(Some(GroupEntry::new(keys, tuple)))
     }
 
     /// Puts the place of a tuple's row in for that before, where there are such.
@@ -209,22 +209,22 @@ impl RankedGroups {
     ) -> Result<(), AllocError>
         ensures groups { self.new.groups ≡ self.old.groups }
         ensures ranking { self.new.ranking ≡ self.old.ranking }
-        ensures places { OnOk result (AreExchanged (is_there (named tuple before)) (is_there (named tuple after))
-            self.old.places self.new.places) }
+        ensures entries { OnOk result (AreExchanged (is_there (named tuple before)) (is_there (named tuple after))
+            self.old.entries self.new.entries) }
     {
         match (before, after) {
             (Some(before), Some(after)) => {
-                exchange(&mut self.places, tuple, before, after)?;
+                exchange(&mut self.entries, tuple, before, after)?;
                 Ok(())
             }
             (Some(before), None) => {
-                let shown = GroupPlace::new(before, tuple);
-                let _there = self.places.remove(&shown);
+                let shown = GroupEntry::new(before, tuple);
+                let _there = self.entries.remove(&shown);
                 drop(shown);
                 Ok(())
             }
             (None, Some(after)) => {
-                self.places.insert(GroupPlace::new(after, tuple))?;
+                self.entries.insert(GroupEntry::new(after, tuple))?;
                 Ok(())
             }
             (None, None) => Ok(()),
@@ -235,11 +235,11 @@ impl RankedGroups {
     fn take_out(&mut self, tuple: &Tuple) -> Result<(), AllocError>
         ensures groups { self.new.groups ≡ self.old.groups }
         ensures ranking { self.new.ranking ≡ self.old.ranking }
-        ensures places { OnOk result (AreWithPlace false self.old tuple.now self.new.places) }
+        ensures entries { OnOk result (AreWithEntry false self.old tuple.now self.new.entries) }
     {
-        if let Some(place) = self.place_of(tuple)? {
-            let _there = self.places.remove(&place);
-            drop(place);
+        if let Some(entry) = self.entry_of(tuple)? {
+            let _there = self.entries.remove(&entry);
+            drop(entry);
         }
         Ok(())
     }
@@ -248,10 +248,10 @@ impl RankedGroups {
     fn put_in(&mut self, tuple: &Tuple) -> Result<(), AllocError>
         ensures groups { self.new.groups ≡ self.old.groups }
         ensures ranking { self.new.ranking ≡ self.old.ranking }
-        ensures places { OnOk result (AreWithPlace true self.old tuple.now self.new.places) }
+        ensures entries { OnOk result (AreWithEntry true self.old tuple.now self.new.entries) }
     {
-        if let Some(place) = self.place_of(tuple)? {
-            self.places.insert(place)?;
+        if let Some(entry) = self.entry_of(tuple)? {
+            self.entries.insert(entry)?;
         }
         Ok(())
     }
@@ -260,7 +260,7 @@ impl RankedGroups {
     fn take_all(&mut self, tuples: &[Tuple]) -> Result<(), AllocError>
         ensures groups { self.new.groups ≡ self.old.groups }
         ensures ranking { self.new.ranking ≡ self.old.ranking }
-        ensures places { OnOk result (IsRanked self.old → KeepsBy tuple_cmp self.old.ranking.order self.new.places
+        ensures entries { OnOk result (IsRanked self.old → KeepsBy tuple_cmp self.old.ranking.order self.new.entries
             (without tuple_cmp tuples.now (placed_at self.old.ranking self.old.groups))) }
     {
         for tuple in tuples {
@@ -273,7 +273,7 @@ impl RankedGroups {
     fn put_all(&mut self, tuples: &[Tuple]) -> Result<(), AllocError>
         ensures groups { self.new.groups ≡ self.old.groups }
         ensures ranking { self.new.ranking ≡ self.old.ranking }
-        ensures places { OnOk result (AreWithAll self.old tuples.now self.new.places) }
+        ensures entries { OnOk result (AreWithAll self.old tuples.now self.new.entries) }
     {
         for tuple in tuples {
             self.put_in(tuple)?;
@@ -292,8 +292,8 @@ impl RankedGroups {
         ensures columns { OnOk result (self.new.groups.columns ≡ self.old.groups.columns) }
         ensures ranking { self.new.ranking ≡ self.old.ranking }
     {
-        if self.ranking.has_places() {
-            self.change_places(change)?;
+        if self.ranking.has_entries() {
+            self.change_entries(change)?;
         } else {
             self.groups.apply_change(change)?;
         }
@@ -301,7 +301,7 @@ impl RankedGroups {
     }
 
     /// Applies a change of rows, and changes the places of the tuples that it touches.
-    fn change_places(&mut self, change: &Change) -> Result<(), AllocError>
+    fn change_entries(&mut self, change: &Change) -> Result<(), AllocError>
         requires { (rows : NumberedRows)
             × (Keeps self.old (values_of rows) × (Fits rows change.now × IsFew rows change.now)) }
         ensures kept { OnOk result ((rows : NumberedRows) → Fits rows change.now → Keeps self.old (values_of rows)
@@ -327,8 +327,8 @@ impl RankedGroups {
         ensures columns { OnOk result (self.new.groups.columns ≡ self.old.groups.columns) }
         ensures ranking { self.new.ranking ≡ self.old.ranking }
     {
-        if self.ranking.has_places() {
-            self.come_to_place(row)?;
+        if self.ranking.has_entries() {
+            self.come_to_entry(row)?;
         } else {
             self.groups.come(row)?;
         }
@@ -336,7 +336,7 @@ impl RankedGroups {
     }
 
     /// A row comes, and the place of its group is put in for that before.
-    fn come_to_place<R: RowView>(&mut self, row: &R) -> Result<(), AllocError>
+    fn come_to_entry<R: RowView>(&mut self, row: &R) -> Result<(), AllocError>
         requires { (rows : NumberedRows) × (Keeps self.old (values_of rows) × (length rows < max_appended_rows)) }
         ensures kept { OnOk result ((rows : NumberedRows) (n : ℕ)
             → FollowsShift (λ rs. Keeps self.old (values_of rs)) (λ rs. Keeps self.new (values_of rs))
@@ -365,8 +365,8 @@ impl RankedGroups {
         ensures columns { OnOk result (self.new.groups.columns ≡ self.old.groups.columns) }
         ensures ranking { self.new.ranking ≡ self.old.ranking }
     {
-        if self.ranking.has_places() {
-            self.go_from_place(row)?;
+        if self.ranking.has_entries() {
+            self.go_from_entry(row)?;
         } else {
             self.groups.go(row)?;
         }
@@ -374,7 +374,7 @@ impl RankedGroups {
     }
 
     /// A row goes, and the place of its group is put in for that before.
-    fn go_from_place<R: RowView>(&mut self, row: &R) -> Result<(), AllocError>
+    fn go_from_entry<R: RowView>(&mut self, row: &R) -> Result<(), AllocError>
         requires { (rows : NumberedRows) × (n : ℕ) × (Keeps self.old (values_of rows)
             × (IsStrictlySortedBy nat_cmp (keys_of rows) × (row_at n rows ≡ Some (R.cells row.now)))) }
         ensures kept { OnOk result ((rows : NumberedRows) (n : ℕ)
@@ -401,8 +401,8 @@ impl RankedGroups {
         ensures columns { OnOk result (self.new.groups.columns ≡ self.old.groups.columns) }
         ensures ranking { self.new.ranking ≡ self.old.ranking }
     {
-        if self.ranking.has_places() {
-            self.take_in_at_place(tuple, group)?;
+        if self.ranking.has_entries() {
+            self.take_in_at_entry(tuple, group)?;
         } else {
             self.groups.take_in(tuple, group, &[], &NoReader)?;
         }
@@ -410,7 +410,7 @@ impl RankedGroups {
     }
 
     /// The rows of a group come, and the place of their tuple's group is put in for that before.
-    fn take_in_at_place(&mut self, tuple: &Tuple, group: &Group) -> Result<(), AllocError>
+    fn take_in_at_entry(&mut self, tuple: &Tuple, group: &Group) -> Result<(), AllocError>
         requires part { CanTakeIn (Keeps self.old) self.old.groups tuple.now group.now }
         ensures kept { OnOk result (TakesIn (Keeps self.old) (Keeps self.new) self.old.groups tuple.now group.now) }
         ensures keys { OnOk result (self.new.groups.keys ≡ self.old.groups.keys) }
@@ -433,8 +433,8 @@ impl RankedGroups {
         ensures columns { OnOk result (self.new.groups.columns ≡ self.old.groups.columns) }
         ensures ranking { self.new.ranking ≡ self.old.ranking }
     {
-        if self.ranking.has_places() {
-            self.give_up_from_place(tuple, group)?;
+        if self.ranking.has_entries() {
+            self.give_up_from_entry(tuple, group)?;
         } else {
             self.groups.give_up(tuple, group, &[], &NoReader)?;
         }
@@ -442,7 +442,7 @@ impl RankedGroups {
     }
 
     /// The rows of a group go, and the place of their tuple's group is put in for that before.
-    fn give_up_from_place(&mut self, tuple: &Tuple, group: &Group) -> Result<(), AllocError>
+    fn give_up_from_entry(&mut self, tuple: &Tuple, group: &Group) -> Result<(), AllocError>
         requires part { CanGiveUp (Keeps self.old) self.old.groups tuple.now group.now }
         ensures kept { OnOk result (GivesUp (Keeps self.old) (Keeps self.new) self.old.groups tuple.now group.now) }
         ensures keys { OnOk result (self.new.groups.keys ≡ self.old.groups.keys) }
@@ -458,7 +458,7 @@ impl RankedGroups {
     }
 
     /// The columns of which something is kept.
-    pub fn columns(&self) -> &[KeptColumn]
+    pub fn columns(&self) -> &[AccumulatedColumn]
         ensures { result.now ≡ self.now.groups.columns }
     {
         self.groups.columns()
@@ -473,16 +473,16 @@ impl RankedGroups {
 
     /// The tuples of the first places, at most `most` of them.
     fn first_tuples(&self, alloc: Global, most: usize) -> Result<Vec<Tuple>, AllocError>
-        ensures ascending { IsStrictlySortedBy group_place_cmp self.now.places }
+        ensures ascending { IsStrictlySortedBy group_entry_cmp self.now.entries }
         ensures tuples { IfOk result (λ tuples.
-            tuples.items ≡ map (λ (p : PlaceSeen). p.1) (take most self.now.places)) }
+            tuples.items ≡ map (λ (p : EntrySeen). p.1) (take most self.now.entries)) }
     {
-        let mut tuples = Vec::with_capacity(alloc, self.places.len().min(most))?;
-        for place in self.places.iter() {
+        let mut tuples = Vec::with_capacity(alloc, self.entries.len().min(most))?;
+        for entry in self.entries.iter() {
             if tuples.len() == most {
                 break;
             }
-            tuples.push(place.tuple().copy(alloc)?)?;
+            tuples.push(entry.tuple().copy(alloc)?)?;
         }
         Ok(tuples)
     }
@@ -505,7 +505,7 @@ impl RankedGroups {
         ensures { IfOk result (λ made. WhereRead (Keeps self.now) self.now.groups self.now.ranking.outputs
             (λ rows. rows_of made.items ≡ take most (ranked_rows self.now.groups.keys self.now.ranking rows))) }
     {
-        if !self.ranking.has_places() {
+        if !self.ranking.has_entries() {
             let made = self.groups.first_rows(alloc, self.ranking.outputs(), most)?;
             return Ok(made);
         }
@@ -515,7 +515,7 @@ impl RankedGroups {
 
     /// The rows at the first places, at most `most` of them.
     fn first_placed(&self, alloc: Global, most: usize) -> Result<Vec<Row>, AllocError>
-        requires { has_places self.now.ranking ≡ true }
+        requires { has_entries self.now.ranking ≡ true }
         ensures { IfOk result (λ made. WhereRead (Keeps self.now) self.now.groups self.now.ranking.outputs
             (λ rows. rows_of made.items ≡ take most (ranked_rows self.now.groups.keys self.now.ranking rows))) }
     {
@@ -547,20 +547,20 @@ impl Upkeep for RankedGroups {
 
 /// Puts the place of a tuple's row in for another.
 fn exchange(
-    places: &mut BTreeSet<GroupPlace>,
+    entries: &mut BTreeSet<GroupEntry>,
     tuple: Tuple,
     before: SortKeyList,
     after: SortKeyList,
 ) -> Result<(), AllocError>
-    ensures { OnOk result (AreExchanged (is_at (group_place_cmp (before, tuple)))
-        (is_at (group_place_cmp (after, tuple))) places.old.keys places.new.keys) }
+    ensures { OnOk result (AreExchanged (is_at (group_entry_cmp (before, tuple)))
+        (is_at (group_entry_cmp (after, tuple))) entries.old.keys entries.new.keys) }
 {
     if before == after {
         return Ok(());
     }
-    let place = GroupPlace::new(before, tuple);
-    let _there = places.remove(&place);
-    places.insert(GroupPlace::new(after, place.into_tuple()))?;
+    let entry = GroupEntry::new(before, tuple);
+    let _there = entries.remove(&entry);
+    entries.insert(GroupEntry::new(after, entry.into_tuple()))?;
     Ok(())
 }
 

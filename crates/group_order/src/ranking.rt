@@ -1,7 +1,7 @@
 //! Which rows are shown of groups, and in which order.
 
 ghost use Rattle.std.specs.Prelude.{◌≡◌, IfOk};
-ghost use Rattle.group_order.specs.Ranked.{has_places, ranking_by};
+ghost use Rattle.group_order.specs.Ranked.{has_entries, ranking_by};
 
 use group_state::{GroupReader, GroupRow};
 use std::alloc::{AllocError, Global};
@@ -60,8 +60,8 @@ impl Ranking {
     }
 
     /// Whether places are kept: else all groups are shown, in their own order.
-    pub(crate) fn has_places(&self) -> bool
-        ensures { result ≡ has_places self.now }
+    pub(crate) fn has_entries(&self) -> bool
+        ensures { result ≡ has_entries self.now }
     {
         self.having.is_some() || self.order.len() > 0
     }
@@ -76,7 +76,7 @@ impl GroupReader for Ranking {
     ghost reads = { keys_read };
 
     fn read(&self, alloc: Global, row: &GroupRow<'_>) -> Result<Option<SortKeyList>, AllocError> {
-        if self.has_places() && passes(&self.having, row) {
+        if self.has_entries() && passes(&self.having, row) {
             Ok(Some(SortKeyList::of(alloc, &self.order, row)?))
         } else {
             Ok(None)

@@ -38,7 +38,7 @@ use Rattle.view_lang.specs.Outputs.{GroupOutput}
 use Rattle.group_state.specs.Keys.{key_in, tuple_cmp, tuple_total, data_of}
 use Rattle.group_state.specs.GroupCounts.{GroupCounts}
 use Rattle.group_state.specs.Grouped.{Grouped}
-use Rattle.group_state.specs.declared.kept_columns.KeptColumn.{KeptColumn}
+use Rattle.group_state.specs.declared.accumulated_columns.AccumulatedColumn.{AccumulatedColumn}
 use Rattle.group_state.specs.Rows.{KeepsRows}
 use Rattle.group_state.specs.Tuples.{has_tuple, members}
 use Rattle.group_state.specs.Groups.{Keeps, KeepsAt}
@@ -121,7 +121,7 @@ const-any true r rs = refl
 const-any false r [] = refl
 const-any false r (x ∷ xs) = const-any false x xs
 
-module _ (columns : List KeptColumn) (groups : List (List Key × GroupCounts)) (rows : List (List Datum)) where
+module _ (columns : List AccumulatedColumn) (groups : List (List Key × GroupCounts)) (rows : List (List Datum)) where
   abbrev KeepsBy : List ℕ → Type 0
   KeepsBy by = Keeps (record { keys = by; columns = columns; groups = groups }) rows
 
@@ -226,7 +226,7 @@ module _ (columns : List KeptColumn) (groups : List (List Key × GroupCounts)) (
           made-is by k c groups rs a (own-entries tuple_cmp tuple_total groups o) ∙ rows-by-keys by keys groups
           ∙ ap (map (λ t. group_row outs t (rows_with by t rows))) (tuples-are o by k keys n)
 
-bare-row : (columns : List KeptColumn) (outs : List GroupOutput) (g : GroupCounts) (r : List Datum)
+bare-row : (columns : List AccumulatedColumn) (outs : List GroupOutput) (g : GroupCounts) (r : List Datum)
     → IsRead columns outs ([], g) r → KeepsRows columns g [] → (by : List ℕ) (es : List (List Key × GroupCounts))
     (rows : List (List Datum))
     → (length by ≡ 0) × (length es ≡ 0) → Keeps (record { keys = by; columns = columns; groups = es }) rows
@@ -241,21 +241,21 @@ bare-row columns outs g r a e [] [] [] n k c =
 
 module _ (s : Grouped) (outs : List GroupOutput) (rows : List (List Datum)) (k : Keeps s rows)
     (c : CanReadAll s.keys s.columns outs rows) where
-  pub bare-read : (c1 c2 : List KeptColumn) (t : List Key) (g : GroupCounts) (r : List Datum) (made : List (List Datum))
+  pub bare-read : (c1 c2 : List AccumulatedColumn) (t : List Key) (g : GroupCounts) (r : List Datum) (made : List (List Datum))
       → c1 ≡ s.columns → c2 ≡ s.columns → t ≡ [] → KeepsRows c1 g [] → IsRead c2 outs (t, g) r
       → (length s.keys ≡ 0) × (length s.groups ≡ 0) → made ≡ r ∷ [] → made ≡ group_rows s.keys outs rows
   bare-read c1 c2 t g r made e1 e2 e3 kept a n pushed =
-      let P : List KeptColumn → Type 0 = λ x. KeepsRows x g [] in
-      let Q : List KeptColumn → Type 0 = λ x. IsRead x outs (t, g) r in
+      let P : List AccumulatedColumn → Type 0 = λ x. KeepsRows x g [] in
+      let Q : List AccumulatedColumn → Type 0 = λ x. IsRead x outs (t, g) r in
       let R : List Key → Type 0 = λ x. IsRead s.columns outs (x, g) r in
       pushed ∙ bare-row s.columns outs g r (subst R e3 (subst Q e2 a)) (subst P e1 kept) s.keys s.groups rows n k c
 
-  pub all-read : TuplesAsk → TuplesAscend → TuplesAreOfRows → (cs : List KeptColumn) (es : List (List Key × GroupCounts))
+  pub all-read : TuplesAsk → TuplesAscend → TuplesAreOfRows → (cs : List AccumulatedColumn) (es : List (List Key × GroupCounts))
       (made : List (List Datum)) → cs ≡ s.columns → es ≡ s.groups → IsStrictlySortedBy tuple_cmp (keys_of es)
       → AreRead cs outs es made
       → ((length s.keys ≡ 0) × (length s.groups ≡ 0) → ⊥) → made ≡ group_rows s.keys outs rows
   all-read ask ascend of_rows cs es made e1 e2 o a n =
-      let P : List KeptColumn → Type 0 = λ x. AreRead x outs es made in
+      let P : List AccumulatedColumn → Type 0 = λ x. AreRead x outs es made in
       let Q : List (List Key × GroupCounts) → Type 0 = λ x. AreRead s.columns outs x made in
       let R : List (List Key × GroupCounts) → Type 0 = λ x. IsStrictlySortedBy tuple_cmp (keys_of x) in
       rows-are-read s.columns s.groups rows outs ask ascend of_rows (subst R e2 o) s.keys made

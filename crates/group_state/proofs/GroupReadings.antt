@@ -10,7 +10,7 @@ use Rattle.std.specs.declared.alloc.Global.{Global}
 use Rattle.view_lang.specs.Aggregates.{IsKeyCell}
 use Rattle.view_lang.specs.Outputs.{GroupOutput}
 use Rattle.group_state.specs.GroupCounts.{GroupCounts}
-use Rattle.group_state.specs.declared.kept_columns.KeptColumn.{KeptColumn}
+use Rattle.group_state.specs.declared.accumulated_columns.AccumulatedColumn.{AccumulatedColumn}
 use Rattle.group_state.specs.Rows.{cells}
 use Rattle.group_state.specs.Reading.{IsRead, AreRead}
 
@@ -19,7 +19,7 @@ pub cells-keys : (k : ℕ) (rows : List (List Datum)) → AllByRecursion (λ row
 cells-keys k [] a = tt
 cells-keys k (r ∷ rs) a = (a.0, cells-keys k rs a.1)
 
-pub read-push : (columns : List KeptColumn) (outs : List GroupOutput) (es : List (List Key × GroupCounts))
+pub read-push : (columns : List AccumulatedColumn) (outs : List GroupOutput) (es : List (List Key × GroupCounts))
     (rs : List (List Datum)) (e : List Key × GroupCounts) (r : List Datum)
     → AreRead columns outs es rs → IsRead columns outs e r → AreRead columns outs (es ++ e ∷ []) (rs ++ r ∷ [])
 read-push columns outs [] [] e r a h = (h, tt)
@@ -27,7 +27,7 @@ read-push columns outs [] (x ∷ rs) e r a h = absurd a
 read-push columns outs (x ∷ es) [] e r a h = absurd a
 read-push columns outs (x ∷ es) (y ∷ rs) e r a h = (a.0, read-push columns outs es rs e r a.1 h)
 
-pub read-more : {A : Type 0} (shows : A → List Key × GroupCounts) (columns : List KeptColumn) (outs : List GroupOutput)
+pub read-more : {A : Type 0} (shows : A → List Key × GroupCounts) (columns : List AccumulatedColumn) (outs : List GroupOutput)
     (xs : List A) (x : A) (rs next : List (Vec Datum Global)) (r : Vec Datum Global) → next ≡ rs ++ r ∷ []
     → AreRead columns outs (map shows xs) (rows_of rs) → IsRead columns outs (shows x) r.items
     → AreRead columns outs (map shows (xs ++ x ∷ [])) (rows_of next)

@@ -14,7 +14,7 @@ pub mod Distinct
 pub mod GroupReadings
 pub mod Sums
 pub mod GroupLaw
-pub mod KeptColumns
+pub mod AccumulatedColumns
 pub mod FewValues
 pub mod OneValue
 pub mod Poured

@@ -13,7 +13,7 @@ use Rattle.values.specs.declared.key.Key.{Key}
 use Rattle.view_lang.specs.Limits.{max_appended_rows}
 use Rattle.group_state.specs.Keys.{key_cmp, tuple_cmp, tuple_total}
 use Rattle.group_state.specs.GroupCounts.{GroupCounts}
-use Rattle.group_state.specs.declared.kept_columns.KeptColumn.{KeptColumn}
+use Rattle.group_state.specs.declared.accumulated_columns.AccumulatedColumn.{AccumulatedColumn}
 use Rattle.group_state.specs.Tuples.{tuple_of, has_tuple, members}
 use Rattle.group_state.specs.Groups.{Keeps, KeepsAt}
 use Rattle.view_lang.proofs.ExactKeys.{key_exact}
@@ -36,7 +36,7 @@ same_tuple t u h = tuple_exact t u ((Equal-is (tuple_cmp t u)).0 h)
 pub tuple_itself : (t : List Key) → is_at (tuple_cmp t) t ≡ true
 tuple_itself t = (Equal-is (tuple_cmp t t)).1 (tied_itself tuple_total t)
 
-module _ (keys : List ℕ) (columns : List KeptColumn) (old new : List (List Key × GroupCounts)) (row : List Datum) (rows : List (List Datum))
+module _ (keys : List ℕ) (columns : List AccumulatedColumn) (old new : List (List Key × GroupCounts)) (row : List Datum) (rows : List (List Datum))
   where
     abbrev at : List (List Key × GroupCounts) → List Key → Option GroupCounts
     at es t = lookup (is_at (tuple_cmp t)) es

@@ -22,7 +22,7 @@ use Rattle.group_state.specs.Keys.{tuple_cmp, tuple_total}
 use Rattle.group_state.specs.Moves.{AreTogether, IsPartOf}
 use Rattle.group_state.specs.Rows.{KeepsRows, cell, cells}
 use Rattle.group_state.specs.Tuples.{has_tuple, members, tuple_of}
-use Rattle.group_state.specs.declared.kept_columns.KeptColumn.{KeptColumn}
+use Rattle.group_state.specs.declared.accumulated_columns.AccumulatedColumn.{AccumulatedColumn}
 use Rattle.group_state.specs.declared.total.Total.{Total}
 use Rattle.group_state.proofs.Members.{same_tuple, tuple_itself}
 use Rattle.group_state.proofs.Same.{keeps-same}
@@ -103,7 +103,7 @@ none [] h = refl
 none (x ∷ xs) h = absurd (omega (arith, h))
 
 -- a group that has no more rows than those that go has no others
-pub none-left : (columns : List KeptColumn) (g h : GroupCounts) (rest moved : List (List Datum))
+pub none-left : (columns : List AccumulatedColumn) (g h : GroupCounts) (rest moved : List (List Datum))
     → KeepsRows columns g (moved ++ rest) → KeepsRows columns h moved → g.rows ≤ h.rows → rest ≡ []
 none-left columns g h rest moved k l few =
     let a = k.rows_are in
@@ -161,7 +161,7 @@ length-together all some others together =
     let h = together (λ (r : List Datum). true) in
     omega (arith, a, b, c, h)
 
-module _ (keys : List ℕ) (columns : List KeptColumn) (old new : List (List Key × GroupCounts)) (t : List Key)
+module _ (keys : List ℕ) (columns : List AccumulatedColumn) (old new : List (List Key × GroupCounts)) (t : List Key)
     (g : GroupCounts) (all moved others : List (List Datum)) (part : IsPartOf keys columns t g all moved others)
   where
     abbrev at : List (List Key × GroupCounts) → List Key → Option GroupCounts

@@ -17,9 +17,9 @@ use mir.Syntax.{w128}
 use Rattle.view_lang.specs.Folds.{total}
 use Rattle.group_state.specs.Counts.{weighted}
 use Rattle.group_state.specs.Folds.{keys_in, multiset_of}
-use Rattle.group_state.specs.declared.kept_columns.KeptColumn.{KeptColumn}
-use Rattle.group_state.specs.declared.kept_columns.KeptForm.{KeptForm}
-use Rattle.group_state.specs.declared.kept_columns.KeptForm.TheVariants as kept
+use Rattle.group_state.specs.declared.accumulated_columns.AccumulatedColumn.{AccumulatedColumn}
+use Rattle.group_state.specs.declared.accumulated_columns.AccumulatorForm.{AccumulatorForm}
+use Rattle.group_state.specs.declared.accumulated_columns.AccumulatorForm.TheVariants as kept
 use Rattle.group_state.specs.declared.tally.Tally.{Tally}
 use Rattle.group_state.specs.declared.tally.Tally.TheVariants as tally
 use Rattle.group_state.proofs.FoldReadings.{sum-total}
@@ -75,7 +75,7 @@ module _ (xs ys : List (List Datum)) (same : (p : List Datum → Bool) → count
   length-same : (t : List Datum → Bool) → length (filter t xs) ≡ length (filter t ys)
   length-same t = length-filter t xs ∙ same t ∙ sym (length-filter t ys)
 
-  tally-same : (t : List Datum → Bool) (j : ℕ) (form : KeptForm) (d : Tally)
+  tally-same : (t : List Datum → Bool) (j : ℕ) (form : AccumulatorForm) (d : Tally)
       → KeepsCells form d (cells j (filter t xs)) → KeepsCells form d (cells j (filter t ys))
   tally-same t j kept.Total (tally.Total n) k = record {
     filled_is = k.filled_is ∙ cells-same is_filled t j;
@@ -91,7 +91,7 @@ module _ (xs ys : List (List Datum)) (same : (p : List Datum → Bool) → count
     present = k.present;
   }
 
-  at-same : (columns : List KeptColumn) (t : List Datum → Bool) (o : Option GroupCounts) → KeepsAt columns (filter t xs) o
+  at-same : (columns : List AccumulatedColumn) (t : List Datum → Bool) (o : Option GroupCounts) → KeepsAt columns (filter t xs) o
       → KeepsAt columns (filter t ys) o
   at-same columns t None k = nil (filter t ys) (sym (length-same t) ∙ ap length k)
   at-same columns t (Some g) k = (

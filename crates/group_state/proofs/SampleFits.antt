@@ -17,7 +17,7 @@ use Rattle.group_state.specs.Moves.{AreTogether, IsPartOf}
 use Rattle.group_state.specs.Rows.{KeepsRows}
 use Rattle.group_state.specs.Sample.{sample_change}
 use Rattle.group_state.specs.Tuples.{members, tuple_of}
-use Rattle.group_state.specs.declared.kept_columns.KeptColumn.{KeptColumn}
+use Rattle.group_state.specs.declared.accumulated_columns.AccumulatedColumn.{AccumulatedColumn}
 use Rattle.group_state.proofs.Members.{tuple_itself}
 
 pub sample-fits : Fits [] sample_change
@@ -39,7 +39,7 @@ unfolding IsStrictlySortedBy
 two-up x y = ((refl, tt), (tt, tt))
 
 -- The group of one row is part of rows among which it is.
-pub part-of_one : (s : Grouped) (keys : List ℕ) (columns : List KeptColumn) (t : List Key) (g : GroupCounts)
+pub part-of_one : (s : Grouped) (keys : List ℕ) (columns : List AccumulatedColumn) (t : List Key) (g : GroupCounts)
     (row : List Datum) (all others : List (List Datum)) → s.keys ≡ keys → s.columns ≡ columns → Keeps s (row ∷ [])
     → t ≡ tuple_of s.keys row → lookup (is_at (tuple_cmp t)) s.groups ≡ Some g → AreTogether all (row ∷ []) others
     → IsPartOf keys columns t g all (row ∷ []) others

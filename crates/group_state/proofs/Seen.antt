@@ -14,9 +14,9 @@ use Rattle.view_lang.specs.declared.aggregate.Aggregate.{Aggregate}
 use Rattle.view_lang.specs.declared.aggregate.Aggregate.TheVariants as aggregate
 use Rattle.group_state.specs.Cells.{KeepsCells, KeepsTotal, KeepsValues}
 use Rattle.group_state.specs.GroupCounts.{GroupCounts}
-use Rattle.group_state.specs.KeptColumns.{counted, is_kept, same_column, valued}
-use Rattle.group_state.specs.declared.kept_columns.KeptColumn.{KeptColumn}
-use Rattle.group_state.specs.declared.kept_columns.KeptForm.TheVariants as kept
+use Rattle.group_state.specs.AccumulatedColumns.{counted, is_accumulated, same_column, valued}
+use Rattle.group_state.specs.declared.accumulated_columns.AccumulatedColumn.{AccumulatedColumn}
+use Rattle.group_state.specs.declared.accumulated_columns.AccumulatorForm.TheVariants as kept
 use Rattle.group_state.specs.declared.tally.Tally.TheVariants as tally
 use Rattle.group_state.specs.declared.total.Total.{Total}
 use Rattle.group_state.specs.Reading.{AreRead, CanRead, IsRead, IsThat, filled}
@@ -27,21 +27,21 @@ use Rattle.group_state.specs.Aggregates.{seen_cell, seen_row}
 use Rattle.group_state.specs.declared.tally.Tally.{Tally}
 use Rattle.group_state.proofs.Distinct.{kept-distinct}
 use Rattle.group_state.proofs.FoldReadings.{kept-count, kept-greatest, kept-least, kept-none, kept-some}
-use Rattle.group_state.proofs.KeptColumns.{column-is}
+use Rattle.group_state.proofs.AccumulatedColumns.{column-is}
 use Rattle.group_state.proofs.GroupReadings.{cells-keys}
 
-record IsFound (n : ℕ) (columns : List KeptColumn) (k : KeptColumn) : Type 0 where
+record IsFound (n : ℕ) (columns : List AccumulatedColumn) (k : AccumulatedColumn) : Type 0 where
   place : ℕ
   there : place < length columns
-  own : (d : KeptColumn) → get_or columns place d ≡ k
+  own : (d : AccumulatedColumn) → get_or columns place d ≡ k
   is : index_from n columns k ≡ Some (n + place)
 
-found-at : (n : ℕ) (columns : List KeptColumn) (k : KeptColumn) → is_kept columns k ≡ true → IsFound n columns k
+found-at : (n : ℕ) (columns : List AccumulatedColumn) (k : AccumulatedColumn) → is_accumulated columns k ≡ true → IsFound n columns k
 found-at n [] k h = absurd (cc)
 found-at n (c ∷ cs) k h = go (same_column c k) refl h (found-at (suc n) cs k)
   where
-    go : (b : Bool) → same_column c k ≡ b → (b || is_kept cs k) ≡ true
-        → (is_kept cs k ≡ true → IsFound (suc n) cs k) → IsFound n (c ∷ cs) k
+    go : (b : Bool) → same_column c k ≡ b → (b || is_accumulated cs k) ≡ true
+        → (is_accumulated cs k ≡ true → IsFound (suc n) cs k) → IsFound n (c ∷ cs) k
     go true e h more = record {
       place = 0;
       there = omega arith;
@@ -57,8 +57,8 @@ found-at n (c ∷ cs) k h = go (same_column c k) refl h (found-at (suc n) cs k)
           is = rw e (f.is ∙ ap Some (omega arith));
         }
 
-tally-that : (columns : List KeptColumn) (tallies : List Tally) (rows : List (List Datum)) (k : KeptColumn)
-    → KeepsEach columns tallies rows → is_kept columns k ≡ true
+tally-that : (columns : List AccumulatedColumn) (tallies : List Tally) (rows : List (List Datum)) (k : AccumulatedColumn)
+    → KeepsEach columns tallies rows → is_accumulated columns k ≡ true
     → IsThat k.form (tally_at columns tallies k) (cells k.column rows)
 tally-that columns [] rows k e h =
     let f = found-at 0 columns k h in
@@ -66,7 +66,7 @@ tally-that columns [] rows k e h =
 tally-that columns (t ∷ ts) rows k e h =
     let f = found-at 0 columns k h in
     let P : Option Tally → Type 0 = λ o. IsThat k.form o (cells k.column rows) in
-    let Q : KeptColumn → Type 0 = λ c. KeepsCells c.form (slice_index_or (t ∷ ts) f.place t) (cells c.column rows) in
+    let Q : AccumulatedColumn → Type 0 = λ c. KeepsCells c.form (slice_index_or (t ∷ ts) f.place t) (cells c.column rows) in
     let in_tallies : f.place < length (t ∷ ts) = omega (arith, f.there, e.count) in
     let got : tally_at columns (t ∷ ts) k ≡ Some (get_or (t ∷ ts) f.place t) =
     ap (option_and_then (slice_get (t ∷ ts))) (f.is ∙ ap Some (omega arith)) ∙ slice_get-get_or (t ∷ ts) f.place t in_tallies in
@@ -89,7 +89,7 @@ module _ (t : Total) (cs : List Datum) (k : KeepsTotal t cs) where
   sum-is f zero h = kept-none t cs k h
   sum-is f (suc n) h = kept-some t cs k (omega (arith, h)) f
 
-pub cell-seen : (columns : List KeptColumn) (e : List Key × GroupCounts) (rows : List (List Datum)) (a : Aggregate)
+pub cell-seen : (columns : List AccumulatedColumn) (e : List Key × GroupCounts) (rows : List (List Datum)) (a : Aggregate)
     → KeepsRows columns e.1 rows → CanRead columns rows a → seen_cell columns e a ≡ aggregate_of a (data_of e.0) rows
 cell-seen columns e rows (aggregate.Key j) k r = refl
 cell-seen columns e rows aggregate.Count k r = ap (λ n. whole (pos n)) k.rows_are
@@ -113,7 +113,7 @@ cell-seen columns e rows (aggregate.Greatest j) k r =
     (tally-that columns e.1.tallies rows (valued j) k.tallies_are r.kept)
     (λ es c. kept-greatest es (cells j rows) c (cells-keys j rows r.keys))
 
-pub row-seen : (columns : List KeptColumn) (outs : List GroupOutput) (e : List Key × GroupCounts) (rows : List (List Datum))
+pub row-seen : (columns : List AccumulatedColumn) (outs : List GroupOutput) (e : List Key × GroupCounts) (rows : List (List Datum))
     → KeepsRows columns e.1 rows → All (λ o. CanRead columns rows o.aggregate) outs
     → seen_row columns outs e ≡ group_row outs (data_of e.0) rows
 unfolding group_row
@@ -122,12 +122,12 @@ row-seen columns (o ∷ os) e rows k all =
     ap₂ (λ x xs. x ∷ xs) (cell-seen columns e rows o.aggregate k (all 0 o (omega arith)))
     (row-seen columns os e rows k (λ i d h. all (suc i) d (omega (arith, h))))
 
-pub seen-read : (columns : List KeptColumn) (outs : List GroupOutput) (e : List Key × GroupCounts) (made : List Datum)
+pub seen-read : (columns : List AccumulatedColumn) (outs : List GroupOutput) (e : List Key × GroupCounts) (made : List Datum)
     → made ≡ seen_row columns outs e → IsRead columns outs e made
 seen-read columns outs e made h = record { row_is = λ rows k all. h ∙ row-seen columns outs e rows k all }
 
 -- the rows of all groups
-pub all-seen : (columns : List KeptColumn) (outs : List GroupOutput) (es : List (List Key × GroupCounts))
+pub all-seen : (columns : List AccumulatedColumn) (outs : List GroupOutput) (es : List (List Key × GroupCounts))
     → AreRead columns outs es (map (seen_row columns outs) es)
 all-seen columns outs [] = tt
 all-seen columns outs (e ∷ es) = (seen-read columns outs e (seen_row columns outs e) refl, all-seen columns outs es)

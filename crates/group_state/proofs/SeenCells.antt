@@ -13,10 +13,10 @@ use Rattle.values.specs.declared.key.Key.{Key}
 use Rattle.view_lang.specs.Cells.{cell_at}
 use Rattle.view_lang.specs.Outputs.{GroupOutput}
 use Rattle.group_state.specs.GroupCounts.{GroupCounts}
-use Rattle.group_state.specs.declared.kept_columns.KeptColumn.{KeptColumn}
+use Rattle.group_state.specs.declared.accumulated_columns.AccumulatedColumn.{AccumulatedColumn}
 use Rattle.group_state.specs.Aggregates.{seen_cell, seen_row}
 
-pub seen-there : (columns : List KeptColumn) (outs : List GroupOutput) (e : List Key × GroupCounts) (k : ℕ) (o : GroupOutput)
+pub seen-there : (columns : List AccumulatedColumn) (outs : List GroupOutput) (e : List Key × GroupCounts) (k : ℕ) (o : GroupOutput)
     → o ≡ get_or outs k o → k < length outs → cell_at (seen_row columns outs e) k ≡ seen_cell columns e o.aggregate
 seen-there columns outs e k o is below =
     get_or_from_slice_get (seen_row columns outs e) k (seen_cell columns e o.aggregate) null
@@ -24,7 +24,7 @@ seen-there columns outs e k o is below =
     ∙ ap (option_map (λ (x : GroupOutput). seen_cell columns e x.aggregate))
     (slice_get_read outs (length outs) k o refl below is))
 
-pub seen-past : (columns : List KeptColumn) (outs : List GroupOutput) (e : List Key × GroupCounts) (k : ℕ)
+pub seen-past : (columns : List AccumulatedColumn) (outs : List GroupOutput) (e : List Key × GroupCounts) (k : ℕ)
     → length outs ≤ k → cell_at (seen_row columns outs e) k ≡ null
 seen-past columns outs e k all =
     sym (unwrap_or-slice_get (seen_row columns outs e) k null)

@@ -13,7 +13,7 @@ use Rattle.view_lang.specs.ViewLaws.{UsesKeys}
 use Rattle.view_lang.specs.Outputs.{GroupOutput}
 use Rattle.view_lang.specs.declared.aggregate.Aggregate.{Aggregate}
 use Rattle.view_lang.specs.declared.aggregate.Aggregate.TheVariants as aggregate
-use Rattle.group_state.specs.declared.kept_columns.KeptColumn.{KeptColumn}
+use Rattle.group_state.specs.declared.accumulated_columns.AccumulatedColumn.{AccumulatedColumn}
 use Rattle.group_state.specs.Reading.{filled, CanRead, CanReadAll}
 use Rattle.group_state.specs.Aggregates.{SumFits}
 
@@ -82,7 +82,7 @@ compares-at by outs i d b [] a = tt
 compares-at by outs i d b (r ∷ rs) a =
     (at (λ o. ComparesKeys o.aggregate r) outs i d b a.0.1, compares-at by outs i d b rs a.1)
 
-pub can-read : (by : List ℕ) (columns : List KeptColumn) (outs : List GroupOutput) (rows : List (List Datum))
+pub can-read : (by : List ℕ) (columns : List AccumulatedColumn) (outs : List GroupOutput) (rows : List (List Datum))
     → CanReadAll by columns outs rows → (p : List Datum → Bool) → All (λ o. CanRead columns (filter p rows) o.aggregate)
     outs
 can-read by columns outs rows c p = λ i d b.

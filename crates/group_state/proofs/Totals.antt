@@ -10,8 +10,8 @@ use Rattle.values.specs.CellViews.{shallow}
 use Rattle.values.specs.Datum.{Datum, null, truth, whole, text, bytes, list, structure, is_null}
 use Rattle.view_lang.specs.Folds.{number_in, total}
 use Rattle.group_state.specs.Cells.{KeepsCells, KeepsTotal, KeepsValues, is_filled}
-use Rattle.group_state.specs.declared.kept_columns.KeptForm.{KeptForm}
-use Rattle.group_state.specs.declared.kept_columns.KeptForm.TheVariants as kept
+use Rattle.group_state.specs.declared.accumulated_columns.AccumulatorForm.{AccumulatorForm}
+use Rattle.group_state.specs.declared.accumulated_columns.AccumulatorForm.TheVariants as kept
 use Rattle.group_state.specs.declared.tally.Tally.TheVariants as tally
 use Rattle.group_state.specs.declared.total.Total.{Total}
 use Rattle.values.specs.declared.key.Key.{Key}
@@ -104,40 +104,40 @@ module _ (t : Total) (d : Datum) (ds : List Datum) where
 
 -- What holds of a total holds of the tally that it is, in whichever form, and so with the values.
 
-pub total-of : (form : KeptForm) (t : Total) (ds : List Datum) → KeepsCells form (tally.Total t) ds → KeepsTotal t ds
+pub total-of : (form : AccumulatorForm) (t : Total) (ds : List Datum) → KeepsCells form (tally.Total t) ds → KeepsTotal t ds
 total-of kept.Total t ds k = k
 total-of kept.Values t ds k = absurd k
 
-pub values-of : (form : KeptForm) (es : List (Key × ℕ)) (ds : List Datum) → KeepsCells form (tally.Values es) ds
+pub values-of : (form : AccumulatorForm) (es : List (Key × ℕ)) (ds : List Datum) → KeepsCells form (tally.Values es) ds
     → KeepsValues es ds
 values-of kept.Total es ds k = absurd k
 values-of kept.Values es ds k = k
 
-pub total-follows : (t u : Total) (cs ds : List Datum) → (KeepsTotal t cs → KeepsTotal u ds) → (form : KeptForm)
+pub total-follows : (t u : Total) (cs ds : List Datum) → (KeepsTotal t cs → KeepsTotal u ds) → (form : AccumulatorForm)
     → KeepsCells form (tally.Total t) cs → KeepsCells form (tally.Total u) ds
 total-follows t u cs ds f kept.Total k = f k
 total-follows t u cs ds f kept.Values k = absurd k
 
 pub values-follow : (es fs : List (Key × ℕ)) (cs ds : List Datum) → (KeepsValues es cs → KeepsValues fs ds)
-    → (form : KeptForm) → KeepsCells form (tally.Values es) cs → KeepsCells form (tally.Values fs) ds
+    → (form : AccumulatorForm) → KeepsCells form (tally.Values es) cs → KeepsCells form (tally.Values fs) ds
 values-follow es fs cs ds f kept.Total k = absurd k
 values-follow es fs cs ds f kept.Values k = f k
 
 -- So it is with what holds of two of one form.
 
-pub totals-join : (form : KeptForm) (t u v : Total) (cs ds es : List Datum)
+pub totals-join : (form : AccumulatorForm) (t u v : Total) (cs ds es : List Datum)
     → (KeepsTotal t cs → KeepsTotal u ds → KeepsTotal v es) → KeepsCells form (tally.Total t) cs
     → KeepsCells form (tally.Total u) ds → KeepsCells form (tally.Total v) es
 totals-join kept.Total t u v cs ds es f k l = f k l
 totals-join kept.Values t u v cs ds es f k l = absurd k
 
-pub values-join : (form : KeptForm) (xs ys zs : List (Key × ℕ)) (cs ds es : List Datum)
+pub values-join : (form : AccumulatorForm) (xs ys zs : List (Key × ℕ)) (cs ds es : List Datum)
     → (KeepsValues xs cs → KeepsValues ys ds → KeepsValues zs es) → KeepsCells form (tally.Values xs) cs
     → KeepsCells form (tally.Values ys) ds → KeepsCells form (tally.Values zs) es
 values-join kept.Total xs ys zs cs ds es f k l = absurd k
 values-join kept.Values xs ys zs cs ds es f k l = f k l
 
-pub not-both : (form : KeptForm) (t : Total) (xs : List (Key × ℕ)) (cs ds : List Datum)
+pub not-both : (form : AccumulatorForm) (t : Total) (xs : List (Key × ℕ)) (cs ds : List Datum)
     → KeepsCells form (tally.Total t) cs → KeepsCells form (tally.Values xs) ds → ⊥
 not-both kept.Total t xs cs ds k l = l
 not-both kept.Values t xs cs ds k l = k

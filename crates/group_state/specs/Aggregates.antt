@@ -14,7 +14,7 @@ use Rattle.view_lang.specs.declared.aggregate.Aggregate.{Aggregate}
 use Rattle.view_lang.specs.declared.aggregate.Aggregate.TheVariants as aggregate
 use Rattle.group_state.specs.GroupCounts.{GroupCounts}
 use Rattle.group_state.specs.Grouped.{Grouped}
-use Rattle.group_state.specs.KeptColumns.{counted, is_kept, valued}
+use Rattle.group_state.specs.AccumulatedColumns.{counted, is_accumulated, valued}
 use Rattle.group_state.specs.Keys.{data_of, tuple_cmp}
 use Rattle.group_state.specs.Seen.{
   seen_count,
@@ -25,26 +25,26 @@ use Rattle.group_state.specs.Seen.{
   seen_sum,
   tally_at,
 }
-use Rattle.group_state.specs.declared.kept_columns.KeptColumn.{KeptColumn}
+use Rattle.group_state.specs.declared.accumulated_columns.AccumulatedColumn.{AccumulatedColumn}
 use mir.Syntax.{w128}
 
 -- what groups keep of a column for an output: its number, and the form that the output reads
-abbrev pub kept_for : Aggregate → Option KeptColumn
-kept_for (aggregate.Key k) = None
-kept_for aggregate.Count = None
-kept_for (aggregate.CountOf k) = Some (counted k)
-kept_for (aggregate.Distinct k) = Some (valued k)
-kept_for (aggregate.Sum k) = Some (counted k)
-kept_for (aggregate.Least k) = Some (valued k)
-kept_for (aggregate.Greatest k) = Some (valued k)
+abbrev pub accumulated_for : Aggregate → Option AccumulatedColumn
+accumulated_for (aggregate.Key k) = None
+accumulated_for aggregate.Count = None
+accumulated_for (aggregate.CountOf k) = Some (counted k)
+accumulated_for (aggregate.Distinct k) = Some (valued k)
+accumulated_for (aggregate.Sum k) = Some (counted k)
+accumulated_for (aggregate.Least k) = Some (valued k)
+accumulated_for (aggregate.Greatest k) = Some (valued k)
 
-abbrev pub IsThere : List KeptColumn → Option KeptColumn → Type 0
+abbrev pub IsThere : List AccumulatedColumn → Option AccumulatedColumn → Type 0
 IsThere columns None = Unit {0}
-IsThere columns (Some k) = is_kept columns k ≡ true
+IsThere columns (Some k) = is_accumulated columns k ≡ true
 
 -- What an output counts, sums or compares is kept, in the form that it reads.
-abbrev pub IsKept : List KeptColumn → Aggregate → Type 0
-IsKept columns a = IsThere columns (kept_for a)
+abbrev pub IsAccumulated : List AccumulatedColumn → Aggregate → Type 0
+IsAccumulated columns a = IsThere columns (accumulated_for a)
 
 -- whether a number is that of a column, if there is one
 abbrev pub is_number_of : Option ℕ → ℕ → Bool
@@ -60,7 +60,7 @@ abbrev pub is_read : List GroupOutput → ℕ → Bool
 is_read outs k = list_any (λ o. reads o.aggregate k) outs
 
 -- Each of these columns is one that an output reads.
-abbrev pub AreReadBy : List GroupOutput → List KeptColumn → Type 0
+abbrev pub AreReadBy : List GroupOutput → List AccumulatedColumn → Type 0
 AreReadBy outs columns = All (λ k. is_read outs k.column ≡ true) columns
 
 -- A sum can be made of these rows where 128 bits hold it.
@@ -69,7 +69,7 @@ SumFits (aggregate.Sum k) rows = FitsSigned w128 (total (values_at k rows))
 SumFits _ rows = Unit {0}
 
 -- what an output shows of a group
-abbrev pub seen_cell : List KeptColumn → List Key × GroupCounts → Aggregate → Datum
+abbrev pub seen_cell : List AccumulatedColumn → List Key × GroupCounts → Aggregate → Datum
 seen_cell columns e (aggregate.Key k) = cell_at (data_of e.0) k
 seen_cell columns e aggregate.Count = whole (pos e.1.rows)
 seen_cell columns e (aggregate.CountOf k) = seen_in seen_count (tally_at columns e.1.tallies (counted k))
@@ -78,7 +78,7 @@ seen_cell columns e (aggregate.Sum k) = seen_in seen_sum (tally_at columns e.1.t
 seen_cell columns e (aggregate.Least k) = seen_in seen_least (tally_at columns e.1.tallies (valued k))
 seen_cell columns e (aggregate.Greatest k) = seen_in seen_greatest (tally_at columns e.1.tallies (valued k))
 
-abbrev pub seen_row : List KeptColumn → List GroupOutput → List Key × GroupCounts → List Datum
+abbrev pub seen_row : List AccumulatedColumn → List GroupOutput → List Key × GroupCounts → List Datum
 seen_row columns outs e = map (λ o. seen_cell columns e o.aggregate) outs
 
 -- the row of the group that a tuple has, if it has one

@@ -7,12 +7,12 @@ use Rattle.values.specs.declared.key.Key.{Key}
 use Rattle.group_state.specs.Keys.{tuple_cmp}
 use Rattle.group_state.specs.GroupCounts.{GroupCounts}
 use Rattle.group_state.specs.Grouped.{Grouped}
-use Rattle.group_state.specs.declared.kept_columns.KeptColumn.{KeptColumn}
+use Rattle.group_state.specs.declared.accumulated_columns.AccumulatedColumn.{AccumulatedColumn}
 use Rattle.group_state.specs.Rows.{KeepsRows}
 use Rattle.group_state.specs.Tuples.{members}
 
 -- a tuple that no row has has no group, and each other has one of its rows
-abbrev pub KeepsAt : List KeptColumn → List (List Datum) → Option GroupCounts → Type 0
+abbrev pub KeepsAt : List AccumulatedColumn → List (List Datum) → Option GroupCounts → Type 0
 KeepsAt columns rows None = rows ≡ []
 KeepsAt columns rows (Some g) = (0 < g.rows) × KeepsRows columns g rows
 
@@ -21,7 +21,7 @@ abbrev pub group_at : List (List Key × GroupCounts) → List Key → Option Gro
 group_at groups t = lookup (is_at (tuple_cmp t)) groups
 
 -- the group of a tuple is that of these rows
-abbrev pub KeepsUnder : List KeptColumn → List (List Key × GroupCounts) → List Key → List (List Datum) → Type 0
+abbrev pub KeepsUnder : List AccumulatedColumn → List (List Key × GroupCounts) → List Key → List (List Datum) → Type 0
 KeepsUnder columns groups t rows = KeepsAt columns rows (group_at groups t)
 
 -- the groups are those of these rows

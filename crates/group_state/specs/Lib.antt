@@ -8,7 +8,7 @@ pub mod Tuples
 pub mod Grouped
 pub mod Groups
 pub mod Folds
-pub mod KeptColumns
+pub mod AccumulatedColumns
 pub mod Aggregates
 pub mod Reading
 pub mod Sample

@@ -11,14 +11,14 @@ use Rattle.group_state.specs.Groups.{KeepsAt}
 use Rattle.group_state.specs.Keys.{key_cmp, key_in, tuple_cmp}
 use Rattle.group_state.specs.Rows.{KeepsRows}
 use Rattle.group_state.specs.Tuples.{tuple_of}
-use Rattle.group_state.specs.declared.kept_columns.KeptColumn.{KeptColumn}
+use Rattle.group_state.specs.declared.accumulated_columns.AccumulatedColumn.{AccumulatedColumn}
 
 -- Of all these rows each test counts as many as of those two lists together.
 abbrev pub AreTogether : List (List Datum) → List (List Datum) → List (List Datum) → Type 0
 AreTogether all some others = (p : List Datum → Bool) → count_by p all ≡ count_by p some + count_by p others
 
 -- A group is that of some of all these rows, which have this tuple; the others are those.
-pub record IsPartOf (keys : List ℕ) (columns : List KeptColumn) (t : List Key) (g : GroupCounts)
+pub record IsPartOf (keys : List ℕ) (columns : List AccumulatedColumn) (t : List Key) (g : GroupCounts)
     (all moved others : List (List Datum)) : Type 0 where
   pub together : AreTogether all moved others
   pub kept : KeepsRows columns g moved
@@ -51,26 +51,26 @@ GivesUp was is s t g =
 
 -- What is kept of rows can take in what is kept of more, of the same columns: there are few of both together.
 abbrev pub CanAdd :
-    (List KeptColumn → List (List Datum) → Type 0) → (List KeptColumn → List (List Datum) → Type 0) → Type 0
+    (List AccumulatedColumn → List (List Datum) → Type 0) → (List AccumulatedColumn → List (List Datum) → Type 0) → Type 0
 CanAdd was more =
-    (columns : List KeptColumn) × (rest : List (List Datum)) × (moved : List (List Datum))
+    (columns : List AccumulatedColumn) × (rest : List (List Datum)) × (moved : List (List Datum))
     × (was columns rest × (more columns moved × (length rest + length moved < max_appended_rows)))
 
 -- It took them in.
 abbrev pub Adds :
-    (List KeptColumn → List (List Datum) → Type 0) → (List KeptColumn → List (List Datum) → Type 0)
-    → (List KeptColumn → List (List Datum) → Type 0) → Type 0
+    (List AccumulatedColumn → List (List Datum) → Type 0) → (List AccumulatedColumn → List (List Datum) → Type 0)
+    → (List AccumulatedColumn → List (List Datum) → Type 0) → Type 0
 Adds was more is =
-    (columns : List KeptColumn) (rest moved : List (List Datum)) → was columns rest → more columns moved
+    (columns : List AccumulatedColumn) (rest moved : List (List Datum)) → was columns rest → more columns moved
     → is columns (moved ++ rest)
 
 -- The same at the tuple of one of these groups.
-abbrev pub CanAddAt : List KeptColumn → Option GroupCounts → GroupCounts → Type 0
+abbrev pub CanAddAt : List AccumulatedColumn → Option GroupCounts → GroupCounts → Type 0
 CanAddAt columns was g =
     (rest : List (List Datum)) × (moved : List (List Datum))
     × (KeepsAt columns rest was × (KeepsRows columns g moved × (length rest + length moved < max_appended_rows)))
 
-abbrev pub AddsAt : List KeptColumn → Option GroupCounts → GroupCounts → Option GroupCounts → Type 0
+abbrev pub AddsAt : List AccumulatedColumn → Option GroupCounts → GroupCounts → Option GroupCounts → Type 0
 AddsAt columns was g is =
     (rest moved : List (List Datum)) → 0 < g.rows → KeepsRows columns g moved → KeepsAt columns rest was
     → KeepsAt columns (moved ++ rest) is
@@ -78,13 +78,13 @@ AddsAt columns was g is =
 -- The rows of a group can be removed at a tuple.
 abbrev pub CanRemoveAt : Option GroupCounts → GroupCounts → Type 0
 CanRemoveAt was g =
-    (columns : List KeptColumn) × (rest : List (List Datum)) × (moved : List (List Datum))
+    (columns : List AccumulatedColumn) × (rest : List (List Datum)) × (moved : List (List Datum))
     × (KeepsAt columns (moved ++ rest) was × KeepsRows columns g moved)
 
 -- They were.
 abbrev pub RemovesAt : Option GroupCounts → GroupCounts → Option GroupCounts → Type 0
 RemovesAt was g is =
-    (columns : List KeptColumn) (rest moved : List (List Datum)) → KeepsRows columns g moved
+    (columns : List AccumulatedColumn) (rest moved : List (List Datum)) → KeepsRows columns g moved
     → KeepsAt columns (moved ++ rest) was → KeepsAt columns rest is
 
 -- whether a tuple is one of these

@@ -8,11 +8,11 @@ use Rattle.group_state.specs.Aggregates.{seen_row}
 use Rattle.group_state.specs.GroupCounts.{GroupCounts}
 use Rattle.group_state.specs.Grouped.{Grouped}
 use Rattle.group_state.specs.Groups.{group_at}
-use Rattle.group_state.specs.declared.kept_columns.KeptColumn.{KeptColumn}
+use Rattle.group_state.specs.declared.accumulated_columns.AccumulatedColumn.{AccumulatedColumn}
 
 -- what is read of the row that outputs show of a tuple's group: nothing where there is no such group
 abbrev pub read_under :
-    {X : Type 0} → (List Datum → Option X) → List KeptColumn → List GroupOutput → List (List Key × GroupCounts)
+    {X : Type 0} → (List Datum → Option X) → List AccumulatedColumn → List GroupOutput → List (List Key × GroupCounts)
     → List Key → Option X
 read_under reads columns outs groups t =
     option_and_then reads (option_map (λ c. seen_row columns outs (t, c)) (group_at groups t))

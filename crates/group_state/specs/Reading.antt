@@ -11,10 +11,10 @@ use Rattle.view_lang.specs.Outputs.{GroupOutput}
 use Rattle.view_lang.specs.declared.aggregate.Aggregate.{Aggregate}
 use Rattle.group_state.specs.declared.tally.Tally.{Tally}
 use Rattle.group_state.specs.Cells.{KeepsCells}
-use Rattle.group_state.specs.Aggregates.{IsKept, SumFits}
+use Rattle.group_state.specs.Aggregates.{IsAccumulated, SumFits}
 use Rattle.group_state.specs.Keys.{data_of}
-use Rattle.group_state.specs.declared.kept_columns.KeptColumn.{KeptColumn}
-use Rattle.group_state.specs.declared.kept_columns.KeptForm.{KeptForm}
+use Rattle.group_state.specs.declared.accumulated_columns.AccumulatedColumn.{AccumulatedColumn}
+use Rattle.group_state.specs.declared.accumulated_columns.AccumulatorForm.{AccumulatorForm}
 use Rattle.group_state.specs.GroupCounts.{GroupCounts}
 use Rattle.group_state.specs.Grouped.{Grouped}
 use Rattle.group_state.specs.Rows.{KeepsRows}
@@ -24,24 +24,24 @@ abbrev pub filled : List Datum → List Datum
 filled ds = filter (λ d. not (is_null d)) ds
 
 -- a column of the output can be made of what is kept of these rows
-pub record CanRead (columns : List KeptColumn) (rows : List (List Datum)) (out : Aggregate) : Type 0 where
-  pub kept : IsKept columns out
+pub record CanRead (columns : List AccumulatedColumn) (rows : List (List Datum)) (out : Aggregate) : Type 0 where
+  pub kept : IsAccumulated columns out
   pub sums : SumFits out rows
   pub keys : AllByRecursion (ComparesKeys out) rows
 
 -- there is a tally of this form, and it is that of these cells
-abbrev pub IsThat : KeptForm → Option Tally → List Datum → Type 0
+abbrev pub IsThat : AccumulatorForm → Option Tally → List Datum → Type 0
 IsThat form None cells = ⊥
 IsThat form (Some t) cells = KeepsCells form t cells
 
 -- cells are the group row of each rows that the group is kept for
 pub record IsRead
-    (columns : List KeptColumn) (outs : List GroupOutput) (e : List Key × GroupCounts) (cells : List Datum) :
+    (columns : List AccumulatedColumn) (outs : List GroupOutput) (e : List Key × GroupCounts) (cells : List Datum) :
     Type 0 where
   pub row_is : (rows : List (List Datum)) → KeepsRows columns e.1 rows
       → All (λ o. CanRead columns rows o.aggregate) outs → cells ≡ group_row outs (data_of e.0) rows
 
-abbrev pub AreRead : List KeptColumn → List GroupOutput → List (List Key × GroupCounts) → List (List Datum) → Type 0
+abbrev pub AreRead : List AccumulatedColumn → List GroupOutput → List (List Key × GroupCounts) → List (List Datum) → Type 0
 AreRead columns outs [] [] = Unit {0}
 AreRead columns outs [] (r ∷ rs) = ⊥
 AreRead columns outs (e ∷ es) [] = ⊥
@@ -49,8 +49,8 @@ AreRead columns outs (e ∷ es) (r ∷ rs) = IsRead columns outs e r × AreRead 
 
 -- these columns of the output can be made for the groups of these rows
 pub record CanReadAll
-    (by : List ℕ) (columns : List KeptColumn) (outs : List GroupOutput) (rows : List (List Datum)) : Type 0 where
-  pub kept : All (λ o. IsKept columns o.aggregate) outs
+    (by : List ℕ) (columns : List AccumulatedColumn) (outs : List GroupOutput) (rows : List (List Datum)) : Type 0 where
+  pub kept : All (λ o. IsAccumulated columns o.aggregate) outs
   pub sums : AreSummable outs rows
   pub keys : AllByRecursion (UsesKeys by outs) rows
 

@@ -4,17 +4,17 @@ use Rattle.std.specs.Option.{option_and_then}
 use Rattle.values.specs.Datum.{Datum, null, whole}
 use Rattle.group_state.specs.Folds.{first_of, last_of}
 use Rattle.group_state.specs.Keys.{datum_in}
-use Rattle.group_state.specs.KeptColumns.{same_column}
-use Rattle.group_state.specs.declared.kept_columns.KeptColumn.{KeptColumn}
+use Rattle.group_state.specs.AccumulatedColumns.{same_column}
+use Rattle.group_state.specs.declared.accumulated_columns.AccumulatedColumn.{AccumulatedColumn}
 use Rattle.group_state.specs.declared.tally.Tally.{Tally}
 use Rattle.group_state.specs.declared.tally.Tally.TheVariants as tally
 
 -- the first place of a column among others, counted from n
-abbrev pub index_from : ℕ → List KeptColumn → KeptColumn → Option ℕ
+abbrev pub index_from : ℕ → List AccumulatedColumn → AccumulatedColumn → Option ℕ
 index_from n [] k = None
 index_from n (c ∷ cs) k = cond (same_column c k) (Some n) (index_from (suc n) cs k)
 
-abbrev pub tally_at : List KeptColumn → List Tally → KeptColumn → Option Tally
+abbrev pub tally_at : List AccumulatedColumn → List Tally → AccumulatedColumn → Option Tally
 tally_at columns tallies k = option_and_then (slice_get tallies) (index_from 0 columns k)
 
 abbrev pub seen_count : Tally → Datum

@@ -7,10 +7,10 @@ ghost use Rattle.group_state.specs.GroupParts.{IsGroup, group_with};
 ghost use Rattle.group_state.specs.Moves.{Adds, CanAdd};
 ghost use Rattle.group_state.specs.Rows.{KeepsRows, KeepsEach};
 ghost use Rattle.group_state.specs.Seen.{index_from, tally_at};
-ghost use Rattle.group_state.specs.declared.kept_columns.KeptColumn.{KeptColumn};
+ghost use Rattle.group_state.specs.declared.accumulated_columns.AccumulatedColumn.{AccumulatedColumn};
 ghost use Rattle.view_lang.specs.Limits.{max_appended_rows};
 
-use crate::kept_columns::KeptColumn;
+use crate::accumulated_columns::AccumulatedColumn;
 use crate::parts::GroupParts;
 use crate::tally::Tally;
 use crate::tuple::Tuple;
@@ -35,7 +35,7 @@ impl Model for Group {
 
 impl Group {
     /// A group without rows.
-    pub(crate) fn new(alloc: Global, columns: &[KeptColumn]) -> Result<Group, AllocError>
+    pub(crate) fn new(alloc: Global, columns: &[AccumulatedColumn]) -> Result<Group, AllocError>
         ensures { IfOk result (λ g. KeepsRows columns.now g []) }
     {
         let mut tallies = Vec::with_capacity(alloc, columns.len())?;
@@ -93,7 +93,11 @@ impl Group {
     }
 
     /// The tally of a column in a form; `None` if the group keeps none.
-    pub(crate) fn tally(&self, columns: &[KeptColumn], column: KeptColumn) -> Option<&Tally>
+    pub(crate) fn tally(
+        &self,
+        columns: &[AccumulatedColumn],
+        column: AccumulatedColumn,
+    ) -> Option<&Tally>
         ensures { option_map (λ t. t.now) result ≡ tally_at columns.now self.now.tallies column }
     {
         match place(columns, column) {
@@ -106,7 +110,7 @@ impl Group {
     pub(crate) fn add<R: RowView>(
         &mut self,
         alloc: Global,
-        columns: &[KeptColumn],
+        columns: &[AccumulatedColumn],
         row: &R,
     ) -> Result<(), AllocError>
         requires { (rows : List (List Datum)) × (KeepsRows columns.now self.old rows
@@ -123,7 +127,7 @@ impl Group {
     pub(crate) fn remove<R: RowView>(
         &mut self,
         alloc: Global,
-        columns: &[KeptColumn],
+        columns: &[AccumulatedColumn],
         row: &R,
     ) -> Result<(), AllocError>
         requires { (rows : List (List Datum)) × KeepsRows columns.now self.old (R.cells row.now ∷ rows) }
@@ -149,9 +153,9 @@ impl Group {
 
     /// Removes the rows of another group of the same columns.
     pub(crate) fn give_up(&mut self, other: &Group)
-        requires { (columns : List KeptColumn) × (rest : List (List Datum)) × (moved : List (List Datum))
+        requires { (columns : List AccumulatedColumn) × (rest : List (List Datum)) × (moved : List (List Datum))
             × (KeepsRows columns self.old (moved ++ rest) × KeepsRows columns other.now moved) }
-        ensures kept { (columns : List KeptColumn) (rest moved : List (List Datum))
+        ensures kept { (columns : List AccumulatedColumn) (rest moved : List (List Datum))
             → KeepsRows columns self.old (moved ++ rest) → KeepsRows columns other.now moved
             → KeepsRows columns self.new rest }
         ensures rows { self.new.rows ≡ self.old.rows - other.now.rows }
@@ -173,9 +177,9 @@ fn take_in_each(tallies: &mut [Tally], alloc: Global, others: &[Tally]) -> Resul
 }
 
 fn give_up_each(tallies: &mut [Tally], others: &[Tally])
-    requires { (columns : List KeptColumn) × (rest : List (List Datum)) × (moved : List (List Datum))
+    requires { (columns : List AccumulatedColumn) × (rest : List (List Datum)) × (moved : List (List Datum))
         × (KeepsEach columns tallies.old (moved ++ rest) × KeepsEach columns others.now moved) }
-    ensures { (columns : List KeptColumn) (rest moved : List (List Datum))
+    ensures { (columns : List AccumulatedColumn) (rest moved : List (List Datum))
         → KeepsEach columns tallies.old (moved ++ rest) → KeepsEach columns others.now moved
         → KeepsEach columns tallies.new rest }
 {
@@ -187,7 +191,7 @@ fn give_up_each(tallies: &mut [Tally], others: &[Tally])
 fn add_each<R: RowView>(
     tallies: &mut [Tally],
     alloc: Global,
-    columns: &[KeptColumn],
+    columns: &[AccumulatedColumn],
     row: &R,
 ) -> Result<(), AllocError>
     requires { (rows : List (List Datum)) × (KeepsEach columns.now tallies.old rows
@@ -204,7 +208,7 @@ fn add_each<R: RowView>(
 fn remove_each<R: RowView>(
     tallies: &mut [Tally],
     alloc: Global,
-    columns: &[KeptColumn],
+    columns: &[AccumulatedColumn],
     row: &R,
 ) -> Result<(), AllocError>
     requires { (rows : List (List Datum)) × KeepsEach columns.now tallies.old (R.cells row.now ∷ rows) }
@@ -218,7 +222,7 @@ fn remove_each<R: RowView>(
 }
 
 /// The place of a column in a form among others.
-fn place(columns: &[KeptColumn], column: KeptColumn) -> Option<usize>
+fn place(columns: &[AccumulatedColumn], column: AccumulatedColumn) -> Option<usize>
     ensures { result ≡ index_from 0 columns.now column }
 {
     for i in 0..columns.len() {

@@ -3,10 +3,10 @@
 ghost use Rattle.std.specs.Prelude.{◌≡◌, IfOk};
 ghost use Rattle.group_state.specs.Aggregates.{seen_row};
 
+use crate::accumulated_columns::AccumulatedColumn;
 use crate::aggregates::{read_cell, view_cell};
 use crate::cells::no_value;
 use crate::group::Group;
-use crate::kept_columns::KeptColumn;
 use crate::reading::read_row;
 use crate::tuple::Tuple;
 use std::alloc::{AllocError, Global};
@@ -18,7 +18,7 @@ use view_lang::{GroupOutput, RowView};
 #[derive(Drop)]
 pub struct GroupRow<'a> {
     outputs: &'a [GroupOutput],
-    columns: &'a [KeptColumn],
+    columns: &'a [AccumulatedColumn],
     tuple: &'a Tuple,
     group: &'a Group,
 }
@@ -40,7 +40,7 @@ impl<'a> GroupRow<'a> {
     /// The row that outputs show of a group with this tuple and tallies of these columns.
     pub(crate) fn new(
         outputs: &'a [GroupOutput],
-        columns: &'a [KeptColumn],
+        columns: &'a [AccumulatedColumn],
         tuple: &'a Tuple,
         group: &'a Group,
     ) -> GroupRow<'a>

@@ -3,7 +3,7 @@
 ghost use Rattle.group_state.specs.GroupParts.{AreGroups, grouped_with};
 ghost use Rattle.group_state.specs.Groups.{Keeps, KeepsUnder, group_at};
 ghost use Rattle.group_state.specs.Keys.{key_cmp, key_in, tuple_cmp};
-ghost use Rattle.group_state.specs.Aggregates.{AreReadBy, IsKept, seen_at};
+ghost use Rattle.group_state.specs.Aggregates.{AreReadBy, IsAccumulated, seen_at};
 ghost use Rattle.group_state.specs.Moves.{
   AddsAt,
   CanAddAt,
@@ -51,7 +51,7 @@ ghost use Rattle.std.specs.Prelude.{
 ghost use Rattle.values.specs.Datum.{Datum};
 ghost use Rattle.values.specs.declared.key.Key.{Key};
 ghost use Rattle.view_lang.specs.Cells.{rows_of};
-ghost use Rattle.group_state.specs.declared.kept_columns.KeptColumn.{KeptColumn};
+ghost use Rattle.group_state.specs.declared.accumulated_columns.AccumulatedColumn.{AccumulatedColumn};
 ghost use Rattle.view_lang.specs.Groups.{group_rows};
 ghost use Rattle.view_lang.specs.Limits.{max_appended_rows};
 ghost use Rattle.view_lang.specs.Shifts.{
@@ -67,11 +67,11 @@ ghost use Rattle.view_lang.specs.Shifts.{
   with_befores,
 };
 
-use crate::aggregates::kept_columns;
+use crate::accumulated_columns::AccumulatedColumn;
+use crate::aggregates::accumulated_columns;
 use crate::group::Group;
 use crate::group_reader::{GroupReader, NoReader, Readings};
 use crate::group_row::GroupRow;
-use crate::kept_columns::KeptColumn;
 use crate::parts::GroupsParts;
 use crate::reading::{read_first, read_row, read_rows};
 use crate::tuple::Tuple;
@@ -87,7 +87,7 @@ use view_lang::{Change, GroupOutput, RowChange, RowView, Upkeep, group_law};
 pub struct Groups {
     alloc: Global,
     keys: Vec<usize>,
-    columns: Vec<KeptColumn>,
+    columns: Vec<AccumulatedColumn>,
     groups: BTreeMap<Tuple, Group>,
 }
 
@@ -101,7 +101,11 @@ impl Model for Groups {
 
 impl Groups {
     /// The groups of no rows, by the columns `by`, with tallies of the columns `columns`.
-    pub fn new(alloc: Global, by: &[usize], columns: &[KeptColumn]) -> Result<Groups, AllocError>
+    pub fn new(
+        alloc: Global,
+        by: &[usize],
+        columns: &[AccumulatedColumn],
+    ) -> Result<Groups, AllocError>
         ensures keys { IfOk result (λ groups. groups.keys ≡ by.now) }
         ensures columns { IfOk result (λ groups. groups.columns ≡ columns.now) }
         ensures kept { IfOk result (λ groups. Keeps groups []) }
@@ -162,11 +166,11 @@ impl Groups {
     /// The groups of no rows, by the columns `by`, with tallies of all columns that these outputs read.
     pub fn of(alloc: Global, by: &[usize], outputs: &[GroupOutput]) -> Result<Groups, AllocError>
         ensures keys { IfOk result (λ groups. groups.keys ≡ by.now) }
-        ensures columns { IfOk result (λ groups. All (λ o. IsKept groups.columns o.aggregate) outputs.now) }
+        ensures columns { IfOk result (λ groups. All (λ o. IsAccumulated groups.columns o.aggregate) outputs.now) }
         ensures read { IfOk result (λ groups. AreReadBy outputs.now groups.columns) }
         ensures kept { IfOk result (λ groups. Keeps groups []) }
     {
-        let columns = kept_columns(alloc, outputs)?;
+        let columns = accumulated_columns(alloc, outputs)?;
         Ok(Groups::new(alloc, by, columns.as_slice())?)
     }
 
@@ -223,7 +227,7 @@ impl Groups {
     }
 
     /// The columns of which something is kept.
-    pub fn columns(&self) -> &[KeptColumn]
+    pub fn columns(&self) -> &[AccumulatedColumn]
         ensures { result.now ≡ self.now.columns }
     {
         &self.columns
@@ -686,7 +690,7 @@ fn in_order(alloc: Global, tuples: BTreeSet<Tuple>) -> Result<Vec<Tuple>, AllocE
 fn put_row<R: RowView, S: GroupReader>(
     groups: &mut BTreeMap<Tuple, Group>,
     alloc: Global,
-    columns: &[KeptColumn],
+    columns: &[AccumulatedColumn],
     tuple: &Tuple,
     row: &R,
     outputs: &[GroupOutput],
@@ -724,7 +728,7 @@ fn put_row<R: RowView, S: GroupReader>(
 fn take_row<R: RowView, S: GroupReader>(
     groups: &mut BTreeMap<Tuple, Group>,
     alloc: Global,
-    columns: &[KeptColumn],
+    columns: &[AccumulatedColumn],
     tuple: &Tuple,
     row: &R,
     outputs: &[GroupOutput],
@@ -765,7 +769,7 @@ fn take_row<R: RowView, S: GroupReader>(
 fn put_group<S: GroupReader>(
     groups: &mut BTreeMap<Tuple, Group>,
     alloc: Global,
-    columns: &[KeptColumn],
+    columns: &[AccumulatedColumn],
     tuple: &Tuple,
     group: &Group,
     outputs: &[GroupOutput],
@@ -803,7 +807,7 @@ fn put_group<S: GroupReader>(
 fn take_group<S: GroupReader>(
     groups: &mut BTreeMap<Tuple, Group>,
     alloc: Global,
-    columns: &[KeptColumn],
+    columns: &[AccumulatedColumn],
     tuple: &Tuple,
     group: &Group,
     outputs: &[GroupOutput],

@@ -7,6 +7,7 @@
 //! `view_lang`.
 #![tactic(auto)]
 
+mod accumulated_columns;
 mod aggregates;
 mod cells;
 mod few_values;
@@ -14,7 +15,6 @@ mod group;
 mod group_reader;
 mod group_row;
 mod groups;
-mod kept_columns;
 mod many_values;
 mod multiset;
 mod one_value;
@@ -27,11 +27,11 @@ mod tests;
 mod total;
 mod tuple;
 
+pub use accumulated_columns::{AccumulatedColumn, AccumulatorForm};
 pub use group::Group;
 pub use group_reader::{GroupReader, NoReader, Readings};
 pub use group_row::GroupRow;
 pub use groups::Groups;
-pub use kept_columns::{KeptColumn, KeptForm};
 pub use parts::{GroupParts, GroupsParts, MultisetParts, TallyParts, ValueCount};
 pub use total::Total;
 pub use tuple::Tuple;

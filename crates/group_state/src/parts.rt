@@ -1,6 +1,6 @@
 //! The parts of `Groups`, as plain lists.
 
-use crate::kept_columns::KeptColumn;
+use crate::accumulated_columns::AccumulatedColumn;
 use crate::total::Total;
 use values::Key;
 
@@ -9,7 +9,7 @@ use values::Key;
 #[derive(Debug, Drop)]
 pub struct GroupsParts {
     pub keys: Vec<usize>,
-    pub columns: Vec<KeptColumn>,
+    pub columns: Vec<AccumulatedColumn>,
     pub groups: Vec<GroupParts>,
 }
 

@@ -8,9 +8,9 @@ ghost use Rattle.std.specs.Map.{keys_of};
 ghost use Rattle.std.specs.List.Sorted.{IsStrictlySortedBy};
 ghost use Rattle.view_lang.specs.Cells.{rows_of};
 
+use crate::accumulated_columns::AccumulatedColumn;
 use crate::aggregates::read_cell;
 use crate::group::Group;
-use crate::kept_columns::KeptColumn;
 use crate::tuple::Tuple;
 use std::alloc::{AllocError, Global};
 use std::collections::BTreeMap;
@@ -23,7 +23,7 @@ pub(crate) fn read_row(
     outputs: &[GroupOutput],
     tuple: &Tuple,
     group: &Group,
-    columns: &[KeptColumn],
+    columns: &[AccumulatedColumn],
 ) -> Result<Row, AllocError>
     ensures { IfOk result (λ cells. cells.items ≡ seen_row columns.now outputs.now (tuple.now, group.now)) }
 {
@@ -39,7 +39,7 @@ pub(crate) fn read_rows(
     alloc: Global,
     outputs: &[GroupOutput],
     groups: &BTreeMap<Tuple, Group>,
-    columns: &[KeptColumn],
+    columns: &[AccumulatedColumn],
 ) -> Result<Vec<Row>, AllocError>
     ensures read { IfOk result (λ made. AreRead columns.now outputs.now groups.now.entries (rows_of made.items)) }
     ensures ordered { IsStrictlySortedBy tuple_cmp (keys_of groups.now.entries) }
@@ -56,7 +56,7 @@ pub(crate) fn read_first(
     alloc: Global,
     outputs: &[GroupOutput],
     groups: &BTreeMap<Tuple, Group>,
-    columns: &[KeptColumn],
+    columns: &[AccumulatedColumn],
     most: usize,
 ) -> Result<Vec<Row>, AllocError>
     ensures read { IfOk result (λ made. rows_of made.items

@@ -9,11 +9,11 @@ ghost use Rattle.group_state.specs.Cells.{KeepsCells, KeepsValues, fresh};
 ghost use Rattle.group_state.specs.GroupParts.{IsTally, tally_with};
 ghost use Rattle.group_state.specs.Seen.{seen_count, seen_distinct, seen_greatest, seen_least, seen_sum};
 ghost use Rattle.group_state.specs.Rows.{cell};
-ghost use Rattle.group_state.specs.declared.kept_columns.KeptForm.{KeptForm};
+ghost use Rattle.group_state.specs.declared.accumulated_columns.AccumulatorForm.{AccumulatorForm};
 ghost use Rattle.view_lang.specs.Limits.{max_appended_rows};
 
+use crate::accumulated_columns::AccumulatorForm;
 use crate::cells::{count, no_value, whole};
-use crate::kept_columns::KeptForm;
 use crate::multiset::Multiset;
 use crate::parts::TallyParts;
 use crate::row_cells::{is_null_at, key_at};
@@ -33,15 +33,15 @@ pub enum Tally {
 
 impl Tally {
     /// The tally of no cells, in this form.
-    pub(crate) fn new(form: KeptForm) -> Tally
+    pub(crate) fn new(form: AccumulatorForm) -> Tally
         ensures { result ≡ fresh form }
     {
         match form {
-            KeptForm::Total => Tally::Total(Total {
+            AccumulatorForm::Total => Tally::Total(Total {
                 filled: 0,
                 total: 0,
             }),
-            KeptForm::Values => Tally::Values(Multiset::new()),
+            AccumulatorForm::Values => Tally::Values(Multiset::new()),
         }
     }
 
@@ -172,9 +172,9 @@ impl Tally {
         row: &R,
         column: usize,
     ) -> Result<(), AllocError>
-        requires { (form : KeptForm) × (cells : List Datum)
+        requires { (form : AccumulatorForm) × (cells : List Datum)
             × (KeepsCells form self.old cells × (length cells < max_appended_rows)) }
-        ensures { OnOk result ((form : KeptForm) (cells : List Datum) → KeepsCells form self.old cells
+        ensures { OnOk result ((form : AccumulatorForm) (cells : List Datum) → KeepsCells form self.old cells
             → KeepsCells form self.new (cell column (R.cells row.now) ∷ cells)) }
     {
         match self {
@@ -196,7 +196,7 @@ impl Tally {
         row: &R,
         column: usize,
     ) -> Result<(), AllocError>
-        ensures { OnOk result ((form : KeptForm) (cells : List Datum)
+        ensures { OnOk result ((form : AccumulatorForm) (cells : List Datum)
             → KeepsCells form self.old (cell column (R.cells row.now) ∷ cells) → KeepsCells form self.new cells) }
     {
         match self {
@@ -213,10 +213,10 @@ impl Tally {
 
     /// Adds the cells of another tally of the same form.
     pub(crate) fn take_in(&mut self, alloc: Global, other: &Tally) -> Result<(), AllocError>
-        requires { (form : KeptForm) × (rest : List Datum) × (moved : List Datum)
+        requires { (form : AccumulatorForm) × (rest : List Datum) × (moved : List Datum)
             × (KeepsCells form self.old rest × (KeepsCells form other.now moved
             × (length rest + length moved < max_appended_rows))) }
-        ensures { OnOk result ((form : KeptForm) (rest moved : List Datum) → KeepsCells form self.old rest
+        ensures { OnOk result ((form : AccumulatorForm) (rest moved : List Datum) → KeepsCells form self.old rest
             → KeepsCells form other.now moved → KeepsCells form self.new (moved ++ rest)) }
     {
         match (self, other) {
@@ -230,7 +230,7 @@ impl Tally {
 
     /// Removes the cells of another tally of the same form.
     pub(crate) fn give_up(&mut self, other: &Tally)
-        ensures { (form : KeptForm) (rest moved : List Datum) → KeepsCells form self.old (moved ++ rest)
+        ensures { (form : AccumulatorForm) (rest moved : List Datum) → KeepsCells form self.old (moved ++ rest)
             → KeepsCells form other.now moved → KeepsCells form self.new rest }
     {
         match (self, other) {

@@ -3,10 +3,10 @@
 ghost use Rattle.std.specs.Prelude.{◌≡◌, ◌++◌, ◌∷◌, [], IfOk, None, OnOk, Some};
 ghost use Rattle.view_lang.specs.Shifts.{shift};
 ghost use Rattle.group_state.specs.Groups.{Keeps};
-ghost use Rattle.group_state.specs.KeptColumns.{counted, valued};
+ghost use Rattle.group_state.specs.AccumulatedColumns.{counted, valued};
 ghost use Rattle.group_state.specs.Sample.{cell_of, row_of, sample_change};
 
-use crate::{Groups, KeptColumn, NoReader};
+use crate::{AccumulatedColumn, Groups, NoReader};
 use std::alloc::{AllocError, Global};
 use std::cmp::Ordering;
 use std::test::Fail;
@@ -169,7 +169,7 @@ fn one_group(alloc: Global, row: &[Value]) -> Result<Groups, AllocError>
     ensures columns { IfOk result (λ groups. groups.columns ≡ counted 1 ∷ valued 1 ∷ []) }
     ensures kept { IfOk result (λ groups. Keeps groups (row.now ∷ [])) }
 {
-    let columns = [KeptColumn::counted(1), KeptColumn::valued(1)];
+    let columns = [AccumulatedColumn::counted(1), AccumulatedColumn::valued(1)];
     let mut groups = Groups::new(alloc, &[0], &columns)?;
     groups.come(&row)?;
     Ok(groups)

@@ -2,7 +2,7 @@
 use Rattle.std.proofs.Common.{◌≡◌, ◌⊎◌, inl, inr, ℕ, ◌<◌, ◌≤◌, Bool, true, false, Option, None, Some, Result, Ok, Err, OnOk, IfErr, List, [], ◌∷◌, ◌++◌, length, drop, refl, ap, sym, subst, ◌∙◌, arith, append_assoc, append-nil}
 use Rattle.std.specs.Prelude.{if◌then◌else◌, string_bytes}
 use Rattle.std.specs.Option.{option_map}
-use Rattle.values.specs.Reading.{Reading, Stands, mapped}
+use Rattle.values.specs.Reading.{FailsWith, Reading, mapped}
 use Rattle.values.specs.declared.faults.StreamFault.{StreamFault}
 use Rattle.values.specs.declared.faults.StreamFault.TheVariants as fault
 use Rattle.values.proofs.Readings.{valid_Ok, stands_mapped}
@@ -164,7 +164,7 @@ left-step law a old new pushed bytes later f answer after feed text marked l =
     }
 
 pub gives-fault : (s : FeedState) (bytes : List ℕ) (f : StreamFault) → Gives s bytes (Err f)
-    → (f ≡ fault.Memory) ⊎ Stands (gives s bytes) f
+    → (f ≡ fault.Memory) ⊎ FailsWith (gives s bytes) f
 unfolding Gives
 gives-fault s bytes fault.Memory h = inl refl
 gives-fault s bytes fault.NoContinuation h = inr h
@@ -201,7 +201,7 @@ gives-fault s bytes fault.Truncated h = inr h
 pub stops-at :
     (law : RefusalEnds) (a : Account) (s : FeedState) (text bytes later : List ℕ) (f : StreamFault) (m : Reading Given)
     → 0 < length bytes
-    → a ≡ after_lines text (account_in (transcript s (bytes ++ later))) → gives s bytes ≡ m → Stands m f
+    → a ≡ after_lines text (account_in (transcript s (bytes ++ later))) → gives s bytes ≡ m → FailsWith m f
     → StopsAt a text f
 stops-at law a s text bytes later f (Ok g) some tells is stands = absurd stands
 stops-at law a s text bytes later f (Err fs) some tells is stands =
@@ -210,7 +210,7 @@ stops-at law a s text bytes later f (Err fs) some tells is stands =
     tells ∙ ap (λ t. after_lines text (account_in t)) none in
     record {
       whole = sym (ap (λ x. x.lines) here ∙ append-nil text);
-      stands = subst (λ (x : Reading (List ℕ)). Stands x f) (sym (ap (λ x. x.end) here)) stands;
+      stands = subst (λ (x : Reading (List ℕ)). FailsWith x f) (sym (ap (λ x. x.end) here)) stands;
     }
 
 -- A push was refused.
@@ -247,7 +247,7 @@ unfolding Finishes
 finish-valid s u h = valid_Ok (finishing_when s.condition (stream_in (retained_in s))) h
 
 pub finish-fault : (s : FeedState) (f : StreamFault) → Finishes s (Err f)
-    → Stands (finishing_when s.condition (stream_in (retained_in s))) f
+    → FailsWith (finishing_when s.condition (stream_in (retained_in s))) f
 unfolding Finishes
 finish-fault s f h = h
 
@@ -286,11 +286,11 @@ left-ends law a i c l answer =
     (finish-fault l.state c (answer l.state l.shows)) in
     inr (record {
       whole = sym (ap (λ x. x.lines) here ∙ append-nil (string_bytes i.text));
-      stands = subst (λ (m : Reading (List ℕ)). Stands m c) (sym (ap (λ x. x.end) here)) stands;
+      stands = subst (λ (m : Reading (List ℕ)). FailsWith m c) (sym (ap (λ x. x.end) here)) stands;
     })
 
 -- the line of the refusal
-refused-ends : (m : Reading (List ℕ)) (f : StreamFault) → Stands m f → Closes m (refusal_line f) 1
+refused-ends : (m : Reading (List ℕ)) (f : StreamFault) → FailsWith m f → Closes m (refusal_line f) 1
 refused-ends (Ok x) f stands = absurd stands
 refused-ends (Err fs) f stands = (f, stands, refl, refl)
 

@@ -4,7 +4,7 @@ use Rattle.values.specs.Reading.{Reading, ◌>>=◌, mapped}
 use Rattle.schema_meta.specs.Story.{story_of}
 use Rattle.feed.specs.Retained.{stream_in}
 use Rattle.feed.specs.States.{FeedState, finishing_when, fresh, retained_in}
-use Rattle.feed.specs.StoryLaw.{EventsTellAll, input_end}
+use Rattle.feed.specs.StoryLaw.{EventsReportAll, input_end}
 use Rattle.feed.specs.Transcript.{transcript}
 use Rattle.liveviews.specs.Files.{InspectsFile}
 use Rattle.liveviews.specs.Source.{OfSource}
@@ -19,7 +19,7 @@ ends-by : (end : Reading FeedState) → mapped (λ (last : List ℕ). tt) (end >
 ends-by (Ok s) = unsaid (last_line s.condition) (finishing_when s.condition (stream_in (retained_in s)))
 ends-by (Err fs) = refl
 
-pub account-ends : EventsTellAll → EndsAlike
+pub account-ends : EventsReportAll → EndsAlike
 account-ends law bytes = ends-by (transcript (fresh None) bytes).end ∙ sym (ap (λ s. s.end) (law bytes))
 
 -- the status

@@ -39,7 +39,7 @@ use Rattle.std.specs.Prelude.{if◌then◌else◌, ◌==◌}
 use Rattle.std.proofs.lemmas.List.{take_all}
 use Rattle.std.proofs.lemmas.Bool.{eqb-true}
 use Rattle.values.specs.Datum.{Datum}
-use Rattle.values.specs.Reading.{Reading, Stands, one}
+use Rattle.values.specs.Reading.{FailsWith, Reading, one}
 use Rattle.values.specs.StreamCauses.{cause_of}
 use Rattle.values.specs.declared.faults.StreamFault.{StreamFault}
 use Rattle.values.specs.declared.faults.StreamFault.TheVariants as fault
@@ -52,7 +52,7 @@ use Rattle.feed.specs.Events.{given}
 use Rattle.feed.specs.Retained.{Retained, stream_in}
 use Rattle.feed.specs.Shown.{FeedParts, Shows}
 use Rattle.feed.specs.States.{FeedState, Finishes, after_finish, after_push, finishing_when, fresh, gives, retained_in}
-use Rattle.feed.specs.StoryLaw.{AllIsTold, IsBetween, PartialIsHeld, PartialTells, rest_story}
+use Rattle.feed.specs.StoryLaw.{AllIsReported, IsBetween, PartialIsHeld, PartialReports, rest_story}
 use Rattle.liveviews.specs.Buffered.{buffered_rows}
 use Rattle.liveviews.specs.Source.{OfSource}
 use Rattle.liveviews.specs.declared.recasting.table.Table.{Table}
@@ -65,7 +65,7 @@ use Rattle.liveviews.proofs.Tables.{fresh-between, nothing-tells, taken-none}
 
 -- where reading begins
 pub begins :
-    (none : NothingYet) (law : AllIsTold) (f : FeedParts) (t : BufferedBatches) → Shows f (fresh None)
+    (none : NothingYet) (law : AllIsReported) (f : FeedParts) (t : BufferedBatches) → Shows f (fresh None)
     → buffered_rows t ≡ [] → t.batches.items ≡ [] → (input : List ℕ) → HasConsumed (story_of input) f t input
 begins none law f t shows no-rows no-batches input =
     let s : Story = story_of input in
@@ -163,7 +163,7 @@ ends-between t b =
     }
 
 ends-within :
-    (tells : PartialTells) (keeps : PartialIsHeld) (t : FeedState) (held : List ℕ) → 0 < length held → IsBetween t
+    (tells : PartialReports) (keeps : PartialIsHeld) (t : FeedState) (held : List ℕ) → 0 < length held → IsBetween t
     → gives t held ≡ Ok (given (length held) None)
     → EndsHere (retained_in t) held (after_push t held (Ok (given (length held) None)))
 ends-within tells keeps t held some b begun =
@@ -181,7 +181,7 @@ ends-within tells keeps t held some b begun =
     }
 
 ends-so :
-    (tells : PartialTells) (keeps : PartialIsHeld) (t : FeedState) (held : List ℕ) → IsBetween t
+    (tells : PartialReports) (keeps : PartialIsHeld) (t : FeedState) (held : List ℕ) → IsBetween t
     → gives t held ≡ Ok (given (length held) None)
     → EndsHere (retained_in t) held (after_push t held (Ok (given (length held) None)))
 ends-so tells keeps t [] b begun = subst (EndsHere (retained_in t) []) (sym (after-none t)) (ends-between t b)
@@ -189,7 +189,7 @@ ends-so tells keeps t (x ∷ xs) b begun = ends-within tells keeps t (x ∷ xs) 
 
 -- where the input of a feed ends that goes on
 goes-ends :
-    (tells : PartialTells) (keeps : PartialIsHeld) (s : Story) (f : FeedParts) (rows : List (List Datum))
+    (tells : PartialReports) (keeps : PartialIsHeld) (s : Story) (f : FeedParts) (rows : List (List Datum))
     → (g : GoesOn s f rows [])
     → EndsHere (retained_in g.state) (g.held ++ []) (after_push g.state g.held (Ok (given (length g.held) None)))
 goes-ends tells keeps s f rows g =
@@ -198,21 +198,21 @@ goes-ends tells keeps s f rows g =
     (ends-so tells keeps g.state g.held g.between g.begun)
 
 reached-refused :
-    (tells : PartialTells) (keeps : PartialIsHeld) (s : Story) (f : FeedParts) (rows : List (List Datum))
-    (c : StreamFault) → ((t : FeedState) → Shows f t → Finishes t (Err c)) → Reached s f rows [] → Stands s.end c
+    (tells : PartialReports) (keeps : PartialIsHeld) (s : Story) (f : FeedParts) (rows : List (List Datum))
+    (c : StreamFault) → ((t : FeedState) → Shows f t → Finishes t (Err c)) → Reached s f rows [] → FailsWith s.end c
 reached-refused tells keeps s f rows c answer (inl g) =
     let t : FeedState = after_push g.state g.held (Ok (given (length g.held) None)) in
     let here = goes-ends tells keeps s f rows g in
     let end : s.end ≡ finishing_when t.condition (stream_in (retained_in t)) = ap (λ x. x.end) g.tells ∙ here.end in
-    subst (λ (m : Reading (Unit {0})). Stands m c) (sym end) (finish-fault t c (answer t g.shows))
+    subst (λ (m : Reading (Unit {0})). FailsWith m c) (sym end) (finish-fault t c (answer t g.shows))
 reached-refused tells keeps s f rows c answer (inr e) =
     let none : finishing_when e.state.condition (stream_in (retained_in e.state)) ≡ Ok tt =
     ap (λ k. finishing_when k (stream_in (retained_in e.state))) e.marked in
     absurd
-    (subst (λ (m : Reading (Unit {0})). Stands m c) none (finish-fault e.state c (answer e.state e.shows)))
+    (subst (λ (m : Reading (Unit {0})). FailsWith m c) none (finish-fault e.state c (answer e.state e.shows)))
 
 pub end-refused :
-    (tells : PartialTells) (keeps : PartialIsHeld) (s : Story) (f : FeedParts)
+    (tells : PartialReports) (keeps : PartialIsHeld) (s : Story) (f : FeedParts)
     (rows : List (List Datum)) (c : StreamFault) → ((u : FeedState) → Shows f u → Finishes u (Err c))
     → Reached s f rows [] → Refuses s (cause_of c)
 end-refused tells keeps s f rows c answer reached =
@@ -226,7 +226,7 @@ abbrev ending_at : Retained → Story
 ending_at k = ends k.known (at_input_end k.known.schema)
 
 pub reached-complete :
-    (tells : PartialTells) (keeps : PartialIsHeld) (s : Story) (f new : FeedParts) (rows : List (List Datum))
+    (tells : PartialReports) (keeps : PartialIsHeld) (s : Story) (f new : FeedParts) (rows : List (List Datum))
     (u : Unit {0}) → ((t : FeedState) → Shows f t → Finishes t (Ok u))
     → ((t : FeedState) → Shows f t → Shows new (after_finish t (Ok u))) → Reached s f rows [] → IsComplete s new rows
 reached-complete tells keeps s f new rows u answer after (inl g) =

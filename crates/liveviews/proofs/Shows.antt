@@ -2,7 +2,7 @@
 use Rattle.std.proofs.Common.{◌≡◌, inl, inr, ℕ, ◌<◌, ◌≤◌, Option, None, Some, Ok, Err, List, [], ◌++◌, length, drop, All, refl, ap, sym, subst, ◌∙◌, arith, append_assoc, append-nil}
 use Rattle.std.specs.Prelude.{Result, IfErr, OnOk}
 use Rattle.std.specs.Option.{IfSome, option_map}
-use Rattle.values.specs.Reading.{Reading, Stands, mapped}
+use Rattle.values.specs.Reading.{FailsWith, Reading, mapped}
 use Rattle.values.specs.declared.faults.StreamFault.{StreamFault}
 use Rattle.values.specs.Rose.{Rose}
 use Rattle.values.proofs.Readings.{stands_mapped}
@@ -74,7 +74,7 @@ remains-ends law a f c answer r =
     stands_mapped (λ u. last_line r.state.condition)
     (finishing_when r.state.condition (stream_in (retained_in r.state))) c
     (finish-fault r.state c (answer r.state r.shows)) in
-    inr (subst (λ (m : Reading (List ℕ)). Stands m c) (sym (at-end law a f r)) stands)
+    inr (subst (λ (m : Reading (List ℕ)). FailsWith m c) (sym (at-end law a f r)) stands)
 
 ended-valid : (input : List ℕ) (last : List ℕ) → EndsAlike → (account_of input).end ≡ Ok last
     → status_where (story_of input).end ≡ 0
@@ -97,7 +97,7 @@ pub fault-stands : (alike : EndsAlike) (input : List ℕ) (e : ShowFault) → Is
 fault-stands alike input (show.Stream f) (inl memory) = inl memory
 fault-stands alike input (show.Stream f) (inr stands) =
     inr
-    (subst (λ (m : Reading (Unit {0})). Stands m f) (alike input)
+    (subst (λ (m : Reading (Unit {0})). FailsWith m f) (alike input)
     (stands_mapped (λ last. tt) (account_of input).end f stands))
 fault-stands alike input (show.Source f) h = tt
 fault-stands alike input (show.Print f) h = tt

@@ -36,7 +36,7 @@ use Rattle.std.specs.Option.{IfSome, IsSome, IsSomeAnd, option_map}
 use Rattle.std.proofs.Math.Seq.{drop-append-add, drop-length, take-append-add, take-length}
 use Rattle.std.proofs.lemmas.List.{drop-append-le, get_or_append_left, get_or-append-add, take-append-le}
 use Rattle.values.specs.Datum.{Datum}
-use Rattle.values.specs.Reading.{Reading, Stands, ◌>>=◌, one}
+use Rattle.values.specs.Reading.{Reading, FailsWith, ◌>>=◌, one}
 use Rattle.values.specs.Rose.{Rose}
 use Rattle.arrays.specs.Checked.{CheckedColumn}
 use Rattle.values.specs.StreamCauses.{cause_of}
@@ -71,8 +71,8 @@ use Rattle.feed.specs.States.{
   retained_in,
 }
 use Rattle.feed.specs.StoryLaw.{
-  EventTells,
-  FaultsTell,
+  EventReports,
+  FaultsReport,
   IsBetween,
   NoneHeld,
   StoryKnowsSchema,
@@ -87,7 +87,7 @@ use Rattle.liveviews.specs.Steps.{AreConsumedSo, Ended, GoesOn, HasHeavyRow, IsO
 use Rattle.liveviews.specs.Taken.{AreAccepted}
 
 -- a fault that stands in a stream
-pub stands-refuses : (st : Story) (f : StreamFault) → Stands st.end f → Refuses st (cause_of f)
+pub stands-refuses : (st : Story) (f : StreamFault) → FailsWith st.end f → Refuses st (cause_of f)
 stands-refuses st fault.Memory h = tt
 stands-refuses st fault.NoContinuation h = (fault.NoContinuation, refl, h)
 stands-refuses st fault.BadSize h = (fault.BadSize, refl, h)
@@ -195,10 +195,10 @@ joined-gives joins t held piece m begun is =
 
 -- A push was refused.
 goes-fault :
-    (joins : PartialJoins) (stay : FaultsStay) (law : FaultsTell) (st : Story) (rows : List (List Datum))
+    (joins : PartialJoins) (stay : FaultsStay) (law : FaultsReport) (st : Story) (rows : List (List Datum))
     (old : FeedParts) (piece later : List ℕ) (g : GoesOn st old rows (piece ++ later)) (m : Reading Given)
     (c : StreamFault)
-    → gives (after_push g.state g.held (Ok (given (length g.held) None))) piece ≡ m → Stands m c → Stands st.end c
+    → gives (after_push g.state g.held (Ok (given (length g.held) None))) piece ≡ m → FailsWith m c → FailsWith st.end c
 goes-fault joins stay law st rows old piece later g (Ok x) c is h = absurd h
 goes-fault joins stay law st rows old piece later g (Err fs) c is h =
     let all : List ℕ = (g.held ++ piece) ++ later in
@@ -209,25 +209,25 @@ goes-fault joins stay law st rows old piece later g (Err fs) c is h =
     ap (λ x. x.end) g.tells
     ∙ ap (λ xs. (rest_story (retained_in g.state) xs).end) (sym (append_assoc g.held piece later))
     ∙ ap (λ x. x.end) (law g.state all fs g.between there) in
-    subst (λ (x : Reading (Unit {0})). Stands x c) (sym end) h
+    subst (λ (x : Reading (Unit {0})). FailsWith x c) (sym end) h
 
 ended-fault :
     (st : Story) (rows : List (List Datum)) (old : FeedParts) (piece later : List ℕ) (c : StreamFault)
-    → 0 < length piece → (e : Ended st old rows (piece ++ later)) → Stands (gives e.state piece) c → Stands st.end c
+    → 0 < length piece → (e : Ended st old rows (piece ++ later)) → FailsWith (gives e.state piece) c → FailsWith st.end c
 ended-fault st rows old piece later c some e h =
     let more : 0 < length (piece ++ later) =
     let size : length (piece ++ later) ≡ length piece + length later = length-append piece later in
     omega (arith, size, some) in
     let end : st.end ≡ Err (one fault.AfterEnd) = ap (λ x. x.end) e.tells ∙ after-by (piece ++ later) more in
-    let here : Stands {X = Unit {0}} (Err (one fault.AfterEnd)) c =
-    subst (λ (x : Reading Given). Stands x c) (marked-shut e.state piece some e.marked) h in
-    subst (λ (x : Reading (Unit {0})). Stands x c) (sym end) here
+    let here : FailsWith {X = Unit {0}} (Err (one fault.AfterEnd)) c =
+    subst (λ (x : Reading Given). FailsWith x c) (marked-shut e.state piece some e.marked) h in
+    subst (λ (x : Reading (Unit {0})). FailsWith x c) (sym end) here
 
 reached-fault :
-    (joins : PartialJoins) (stay : FaultsStay) (law : FaultsTell) (st : Story) (rows : List (List Datum))
+    (joins : PartialJoins) (stay : FaultsStay) (law : FaultsReport) (st : Story) (rows : List (List Datum))
     (old : FeedParts) (piece later : List ℕ) (f : StreamFault) → 0 < length piece
     → ((t : FeedState) → Shows old t → Gives t piece (Err f)) → Reached st old rows (piece ++ later)
-    → (f ≡ fault.Memory) ⊎ Stands st.end f
+    → (f ≡ fault.Memory) ⊎ FailsWith st.end f
 reached-fault joins stay law st rows old piece later f some answer (inl g) =
     let t : FeedState = after_push g.state g.held (Ok (given (length g.held) None)) in
     elim (gives-fault t piece f (answer t g.shows)) [
@@ -241,7 +241,7 @@ reached-fault joins stay law st rows old piece later f some answer (inr e) =
     ]
 
 pub push-refused :
-    (joins : PartialJoins) (stay : FaultsStay) (law : FaultsTell) (st : Story) (rows : List (List Datum))
+    (joins : PartialJoins) (stay : FaultsStay) (law : FaultsReport) (st : Story) (rows : List (List Datum))
     (old : FeedParts) (piece later : List ℕ) (f : StreamFault) → 0 < length piece
     → ((t : FeedState) → Shows old t → Gives t piece (Err f)) → Reached st old rows (piece ++ later)
     → Refuses st (cause_of f)
@@ -332,7 +332,7 @@ begun-goes : (t : FeedState) (held : List ℕ) → IsBetween t
 begun-goes t held between = after-shows t held (given (length held) None) ∙ between.goes_on
 
 goes-comes :
-    (joins : PartialJoins) (whole : WholeStays) (uses : WholeUses) (law : EventTells) (held : NoneHeld) (st : Story)
+    (joins : PartialJoins) (whole : WholeStays) (uses : WholeUses) (law : EventReports) (held : NoneHeld) (st : Story)
     (rows : List (List Datum)) (old new : FeedParts) (piece later : List ℕ) (used : ℕ) (v : Event)
     → Came old new piece used (Some v) → GoesOn st old rows (piece ++ later)
     → Comes st rows new v (drop used piece ++ later)
@@ -366,7 +366,7 @@ goes-comes joins whole uses law held st rows old new piece later used v c g =
     }
 
 pub comes :
-    (joins : PartialJoins) (whole : WholeStays) (uses : WholeUses) (law : EventTells) (held : NoneHeld) (st : Story)
+    (joins : PartialJoins) (whole : WholeStays) (uses : WholeUses) (law : EventReports) (held : NoneHeld) (st : Story)
     (rows : List (List Datum)) (old new : FeedParts) (piece later : List ℕ) (used : ℕ) (v : Event)
     → 0 < length piece → Came old new piece used (Some v) → Reached st old rows (piece ++ later)
     → Comes st rows new v (drop used piece ++ later)
@@ -468,7 +468,7 @@ end-reached st rows new rest typed c =
     })
 
 -- a batch of rows: what the stream tells, and the columns that it has
-pub record TellsBatch (st : Story) (new : FeedParts) (rows got : List (List Datum)) (rest : List ℕ)
+pub record ReportsBatch (st : Story) (new : FeedParts) (rows got : List (List Datum)) (rest : List ℕ)
     (fields : List (Rose Entry)) : Type 0 where
   pub state : FeedState
   pub shows : Shows new state
@@ -480,7 +480,7 @@ pub batch-tells :
     (knows : StoryKnowsSchema) (st : Story) (rows : List (List Datum)) (new : FeedParts) (rest : List ℕ)
     (columns : List (List Datum)) (n body : ℕ) (fields : List (Rose Entry))
     → new.framing.current.known.schema ≡ Some fields → Comes st rows new (batch columns n body) rest
-    → TellsBatch st new rows (rows_in n columns) rest fields
+    → ReportsBatch st new rows (rows_in n columns) rest fields
 batch-tells knows st rows new rest columns n body fields there c =
     let known : (retained_in c.state).known.schema ≡ Some fields =
     sym (ap (λ x. x.known.schema) c.shows.stream) ∙ there in
@@ -524,7 +524,7 @@ any-right P xs ys (k, x, below, is, holds) =
 refused-by :
     (st : Story) (new : FeedParts) (rows got : List (List Datum)) (rest : List ℕ) (fields : List (Rose Entry))
     (c : Cause)
-    → TellsBatch st new rows got rest fields → RefusesBatch (layouts_of fields) got (length rows) c → Refuses st c
+    → ReportsBatch st new rows got rest fields → RefusesBatch (layouts_of fields) got (length rows) c → Refuses st c
 refused-by st new rows got rest fields cause.Memory b h = tt
 refused-by st new rows got rest fields cause.TooManyRows b many =
     let left : List (List Datum) = (rest_story (retained_in b.state) rest).rows in

@@ -17,12 +17,12 @@ use Rattle.schema_meta.specs.Means.{Means}
 use Rattle.schema_meta.specs.Rows.{row_at}
 use Rattle.schema_meta.specs.Story.{Story, at_input_end, story_of}
 use Rattle.std.specs.Option.{option_map}
-use Rattle.values.specs.Reading.{Reading, Stands, one}
+use Rattle.values.specs.Reading.{FailsWith, Reading, one}
 use Rattle.values.specs.declared.faults.StreamFault.TheVariants as fault
 use Rattle.feed.specs.Columns.{cells_in, layouts_in}
 use Rattle.feed.specs.Shown.{FeedParts, Shows}
 use Rattle.feed.specs.States.{fresh, retained_in}
-use Rattle.feed.specs.StoryLaw.{AllIsTold}
+use Rattle.feed.specs.StoryLaw.{AllIsReported}
 use Rattle.messages.specs.Laws.{NothingYet}
 use Rattle.row_keys.specs.Batches.{HoldsCells}
 use Rattle.body_writer.specs.declared.from_columns.batch.Batch.{Batch}
@@ -222,7 +222,7 @@ complete-knows s f rows complete =
       lacks = λ none_there.
           let end : s.end ≡ Err (one fault.NoSchema) =
           ap (λ x. x.end) complete.tells ∙ ap at_input_end (sym same ∙ none_there) in
-          (fault.NoSchema, refl, subst (λ (m : Reading (Unit {0})). Stands m fault.NoSchema) (sym end) refl);
+          (fault.NoSchema, refl, subst (λ (m : Reading (Unit {0})). FailsWith m fault.NoSchema) (sym end) refl);
     }
 
 pub complete-writes :
@@ -317,7 +317,7 @@ unread-stops held left start now f r file.Memory read =
 
 -- where reading begins
 pub streaming-begins :
-    (none : NothingYet) (law : AllIsTold) (start : Sunk) (f : FeedParts) (r : Streaming) → Shows f (fresh None)
+    (none : NothingYet) (law : AllIsReported) (start : Sunk) (f : FeedParts) (r : Streaming) → Shows f (fresh None)
     → r.writer ≡ None → r.rows ≡ 0 → (input : List ℕ) → HasStreamed start start (story_of input) f r input
 streaming-begins none law start f r shows empty zero input =
     let s : Story = story_of input in

@@ -6,7 +6,7 @@ use Rattle.std.proofs.lemmas.Bool.{eqb-true}
 use Rattle.values.specs.Limits.{max_row_weight}
 use Rattle.values.specs.Datum.{Datum, items_of}
 use Rattle.values.specs.Layouts.{AreLayouts, HoldsEach, row_weight}
-use Rattle.values.specs.Reading.{Reading, Stands, one}
+use Rattle.values.specs.Reading.{FailsWith, Reading, one}
 use Rattle.values.specs.Rose.{Rose, Roses}
 use Rattle.values.specs.declared.layout.Layout.{Layout}
 use Rattle.values.specs.declared.faults.StreamFault.TheVariants as fault
@@ -109,7 +109,7 @@ pub complete-lacks :
 complete-lacks s f rows shown complete =
     let end : s.end ≡ Err (one fault.NoSchema) =
     ap (λ x. x.end) complete.tells ∙ ap at_input_end (sym (shown complete.state complete.shows)) in
-    (fault.NoSchema, refl, subst (λ (m : Reading (Unit {0})). Stands m fault.NoSchema) (sym end) refl)
+    (fault.NoSchema, refl, subst (λ (m : Reading (Unit {0})). FailsWith m fault.NoSchema) (sym end) refl)
 
 -- where reading begins
 pub fresh-between : IsBetween (fresh None)

@@ -1,6 +1,6 @@
 -- How far an inspection has come.
 use Rattle.std.specs.Prelude.{◌≡◌, ◌⊎◌, ℕ, Bool, false, List, [], None, Result, Ok, Err, if◌then◌else◌, string_bytes}
-use Rattle.values.specs.Reading.{Stands}
+use Rattle.values.specs.Reading.{FailsWith}
 use Rattle.values.specs.declared.faults.StreamFault.{StreamFault}
 use Rattle.values.specs.declared.faults.StreamFault.TheVariants as fault
 use Rattle.feed.specs.declared.condition.Condition.{Condition}
@@ -32,7 +32,7 @@ pub record IsLeft (a : Account) (i : Inspection) (rest : List ℕ) : Type 0 wher
 -- All lines before it were written, and then this fault stands.
 pub record StopsAt (a : Account) (text : List ℕ) (f : StreamFault) : Type 0 where
   pub whole : text ≡ a.lines
-  pub stands : Stands a.end f
+  pub stands : FailsWith a.end f
 
 abbrev pub Breaks : Account → List ℕ → StreamFault → Type 0
 Breaks a text f = (f ≡ fault.Memory) ⊎ StopsAt a text f

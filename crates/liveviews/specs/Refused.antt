@@ -2,7 +2,7 @@
 use Rattle.std.specs.Prelude.{◌≡◌, ℕ, ◌+◌, ◌<◌, List, length, Any}
 use Rattle.values.specs.Limits.{max_main_rows}
 use Rattle.values.specs.Datum.{Datum}
-use Rattle.values.specs.Reading.{Reading, Stands}
+use Rattle.values.specs.Reading.{FailsWith, Reading}
 use Rattle.values.specs.Rose.{Roses}
 use Rattle.values.specs.StreamCauses.{cause_of}
 use Rattle.values.specs.declared.layout.Layout.{Layout}
@@ -13,7 +13,7 @@ use Rattle.body_writer.specs.Heavy.{IsHeavy}
 
 -- a stream fault of this cause stands
 abbrev pub HasFaultOf : {X : Type 0} → Reading X → Cause → Type 0
-HasFaultOf m c = (f : StreamFault) × (cause_of f ≡ c) × Stands m f
+HasFaultOf m c = (f : StreamFault) × (cause_of f ≡ c) × FailsWith m f
 
 -- The rows of a batch are too many with those before, or one is too heavy.
 abbrev pub RefusesBatch : Roses Layout → List (List Datum) → ℕ → Cause → Type 0

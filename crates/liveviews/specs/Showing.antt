@@ -1,6 +1,6 @@
 -- How far a stream was shown.
 use Rattle.std.specs.Prelude.{◌≡◌, ◌⊎◌, ℕ, List, [], All, Option, Result, Ok, Err, length}
-use Rattle.values.specs.Reading.{Stands}
+use Rattle.values.specs.Reading.{FailsWith}
 use Rattle.values.specs.declared.faults.StreamFault.TheVariants as fault
 use Rattle.schema_meta.specs.Story.{story_of}
 use Rattle.feed.specs.Shown.{FeedParts, Shows}
@@ -27,7 +27,7 @@ pub record Remains (a : Account) (f : FeedParts) (rest : List ℕ) : Type 0 wher
 
 -- a fault that stands in the stream, or none of the stream's
 abbrev pub IsFault : Account → ShowFault → Type 0
-IsFault a (show.Stream f) = (f ≡ fault.Memory) ⊎ Stands a.end f
+IsFault a (show.Stream f) = (f ≡ fault.Memory) ⊎ FailsWith a.end f
 IsFault a _ = Unit {0}
 
 -- what came of all messages of an input: nothing is left, or there is a fault
@@ -38,7 +38,7 @@ HasPassed f (Err e) input = IsFault (account_of input) e
 -- What came of showing a whole input: no fault stands in it, or that which is named does.
 abbrev pub IsShown : Result (Unit {0}) ShowFault → List ℕ → Type 0
 IsShown (Ok u) input = status_where (story_of input).end ≡ 0
-IsShown (Err (show.Stream f)) input = (f ≡ fault.Memory) ⊎ Stands (story_of input).end f
+IsShown (Err (show.Stream f)) input = (f ≡ fault.Memory) ⊎ FailsWith (story_of input).end f
 IsShown (Err e) input = Unit {0}
 
 -- A file was read in whose stream no fault stands.

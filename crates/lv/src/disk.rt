@@ -22,7 +22,7 @@ pub struct Disk<'a, R: std::rt::Files> {
     runtime: &'a R,
     aside: &'a Aside,
     /// Whether a terminal is told how far a file was read.
-    is_told: bool,
+    is_reported: bool,
     output: Output<R::File>,
     fault: Option<FileFault>,
     failures: u64,
@@ -58,11 +58,11 @@ impl<F: Read, I: Read> Read for Source<F, I> {
 }
 
 impl<'a, R: std::rt::Files> Disk<'a, R> {
-    pub fn new(runtime: &'a R, aside: &'a Aside, is_told: bool) -> Self {
+    pub fn new(runtime: &'a R, aside: &'a Aside, is_reported: bool) -> Self {
         Disk {
             runtime,
             aside,
-            is_told,
+            is_reported,
             output: Output::Missing,
             fault: None,
             failures: 0,
@@ -73,7 +73,7 @@ impl<'a, R: std::rt::Files> Disk<'a, R> {
 impl<'a, R: std::rt::Files + Clock + Eprint> Disk<'a, R> {
     /// The progress of reading a file of so many bytes, where a terminal is told of it.
     fn progress(&self, total: Option<u64>) -> Option<Progress<'a, R>> {
-        if self.is_told {
+        if self.is_reported {
             Progress::begin(self.runtime, total)
         } else {
             None

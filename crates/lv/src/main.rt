@@ -21,8 +21,8 @@ fn main(rt: HostRuntime) -> ExitCode {
     let alloc = rt.alloc();
     let words = words(&rt, alloc).unwrap_or(Vec::new(alloc));
     let aside = Aside::new(false);
-    let is_told = may_be_long(words.as_slice()) && rt.stderr().is_terminal();
-    let mut files = Disk::new(&rt, &aside, is_told);
+    let is_reported = may_be_long(words.as_slice()) && rt.stderr().is_terminal();
+    let mut files = Disk::new(&rt, &aside, is_reported);
     let mut out = Answers::new(io::writer(&rt), rt.stderr(), &aside);
     let status = liveviews::lv(alloc, words.as_slice(), &mut files, &mut out);
     if status == 2 {

@@ -20,7 +20,7 @@ pub struct Progress<'a, R: Clock + Eprint> {
     begun: Instant,
     /// When it is told next, counted from the beginning.
     next: Duration,
-    is_told: bool,
+    is_reported: bool,
 }
 
 impl<'a, R: Clock + Eprint> Progress<'a, R> {
@@ -33,7 +33,7 @@ impl<'a, R: Clock + Eprint> Progress<'a, R> {
             done: 0,
             begun,
             next: Duration::from_secs(PATIENCE),
-            is_told: false,
+            is_reported: false,
         })
     }
 
@@ -45,7 +45,7 @@ impl<'a, R: Clock + Eprint> Progress<'a, R> {
         };
         if passed >= self.next {
             self.next = passed.saturating_add(Duration::from_millis(PAUSE));
-            self.is_told = true;
+            self.is_reported = true;
             self.tell();
         }
     }
@@ -62,7 +62,7 @@ impl<'a, R: Clock + Eprint> Progress<'a, R> {
 
 impl<R: Clock + Eprint> Drop for Progress<'_, R> {
     fn drop(self) {
-        if self.is_told {
+        if self.is_reported {
             let _ = eprint!(self.runtime; "\r\x1b[K");
         }
         let Progress {
@@ -71,7 +71,7 @@ impl<R: Clock + Eprint> Drop for Progress<'_, R> {
             done: _,
             begun: _,
             next: _,
-            is_told: _,
+            is_reported: _,
         } = self;
     }
 }

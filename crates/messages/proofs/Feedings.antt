@@ -35,14 +35,14 @@ use Rattle.std.proofs.Common.{
 use Rattle.std.specs.List.{concat}
 use Rattle.std.proofs.Math.Seq.{drop-length}
 use Rattle.values.specs.declared.faults.StreamFault.{StreamFault}
-use Rattle.values.specs.Reading.{Faults, IsAmong, Yields, Reading, Stands, one, several}
+use Rattle.values.specs.Reading.{Faults, IsAmong, Yields, Reading, FailsWith, one, several}
 use Rattle.messages.specs.declared.headers.Framed.{Framed}
 use Rattle.messages.specs.Handed.{MessageView}
 use Rattle.schema_meta.specs.Stage.{Known, Whole, end_of}
 use Rattle.schema_meta.specs.Sound.{after}
 use Rattle.schema_meta.specs.Framing.{first}
 use Rattle.messages.specs.Stream.{Stream, Frames, message_of}
-use Rattle.messages.specs.Run.{Run, led_by, run_of, run_past, whole_run}
+use Rattle.messages.specs.MessageSequence.{MessageSequence, led_by, message_sequence, sequence_past, whole_sequence}
 use Rattle.messages.specs.Feeding.{End, Feeds, ended, used_up, pushed, refused, handed_on}
 use Rattle.messages.specs.Laws.{AgreeIn, CutsAgree, FeedFollowsRun, FeedsEnd, Follows}
 use Rattle.messages.proofs.Messages.{first_beyond, first_within, fault_stays}
@@ -52,9 +52,9 @@ use Rattle.messages.proofs.Runs.{push_law, push_partial, push_whole, refusal_law
 -- There are no more messages than bytes.
 enough_by :
     (n : ℕ) (known : Known) (bytes : List ℕ) (r : Reading (Option Whole)) → length bytes ≤ suc n
-    → ((next : Known) (rest : List ℕ) → length rest ≤ n → run_of (suc n) next rest ≡ run_of n next rest)
+    → ((next : Known) (rest : List ℕ) → length rest ≤ n → message_sequence (suc n) next rest ≡ message_sequence n next rest)
     → first known bytes ≡ r
-    → run_of (suc (suc n)) known bytes ≡ run_of (suc n) known bytes
+    → message_sequence (suc (suc n)) known bytes ≡ message_sequence (suc n) known bytes
 enough_by n known bytes (Ok None) l ih e =
     run_step (suc n) known bytes (Ok None) e ∙ sym (run_step n known bytes (Ok None) e)
 enough_by n known bytes (Ok (Some w)) l ih e =
@@ -67,12 +67,12 @@ enough_by n known bytes (Ok (Some w)) l ih e =
 enough_by n known bytes (Err fs) l ih e =
     run_step (suc n) known bytes (Err fs) e ∙ sym (run_step n known bytes (Err fs) e)
 
-no_bytes : (known : Known) → run_of 1 known [] ≡ run_of 0 known []
-unfolding run_of
+no_bytes : (known : Known) → message_sequence 1 known [] ≡ message_sequence 0 known []
+unfolding message_sequence
 no_bytes known = run_step 0 known [] (Ok None) (nothing_held known)
 
 run_enough : (n : ℕ) (known : Known) (bytes : List ℕ) → length bytes ≤ n
-    → run_of (suc n) known bytes ≡ run_of n known bytes
+    → message_sequence (suc n) known bytes ≡ message_sequence n known bytes
 run_enough zero known [] l = no_bytes known
 run_enough zero known (b ∷ bytes) l = absurd (omega arith)
 run_enough (suc n) known bytes l =
@@ -80,10 +80,10 @@ run_enough (suc n) known bytes l =
 
 -- no piece is left
 ended_follows :
-    (n : ℕ) (s : Stream) → first s.known s.held ≡ Ok None → Follows [] (Ok s) (run_of (suc n) s.known (s.held ++ []))
+    (n : ℕ) (s : Stream) → first s.known s.held ≡ Ok None → Follows [] (Ok s) (message_sequence (suc n) s.known (s.held ++ []))
 ended_follows n s p =
-    let P : List ℕ → Type 0 = λ bytes. Follows [] (Ok s) (run_of (suc n) s.known bytes) in
-    let Q : Run → Type 0 = λ r. Follows [] (Ok s) r in
+    let P : List ℕ → Type 0 = λ bytes. Follows [] (Ok s) (message_sequence (suc n) s.known bytes) in
+    let Q : MessageSequence → Type 0 = λ r. Follows [] (Ok s) r in
     subst P (sym (append-nil s.held))
     (subst Q (sym (run_step n s.known s.held (Ok None) p)) (record { same = refl; left = refl }))
 
@@ -93,8 +93,8 @@ waits_follow :
     → first old.known (old.held ++ piece) ≡ Ok None → f.used ≡ length piece → f.message ≡ None
     → new ≡ record { known = old.known; held = old.held ++ piece } → length (old.held ++ (piece ++ later)) ≤ n
     → ((m : ℕ) → first new.known new.held ≡ Ok None → length (new.held ++ (drop f.used piece ++ later)) ≤ m
-    → Follows messages end (run_of (suc m) new.known (new.held ++ (drop f.used piece ++ later))))
-    → Follows (handed_on f.message messages) end (run_of (suc n) old.known (old.held ++ (piece ++ later)))
+    → Follows messages end (message_sequence (suc m) new.known (new.held ++ (drop f.used piece ++ later))))
+    → Follows (handed_on f.message messages) end (message_sequence (suc n) old.known (old.held ++ (piece ++ later)))
 waits_follow n old new piece later f messages end e u m s l ih =
     let bytes : List ℕ = old.held ++ (piece ++ later) in
     let rest : List ℕ = new.held ++ (drop f.used piece ++ later) in
@@ -115,15 +115,15 @@ waits_follow n old new piece later f messages end e u m s l ih =
       length-append (drop f.used piece) later,
     ) in
     let B : Option MessageView → Type 0 =
-    λ o. run_of (suc n) old.known bytes ≡ run_past o (λ k. run_of k new.known rest) n in
-    let k : run_of (suc n) old.known bytes ≡ run_of (suc n) new.known rest =
+    λ o. message_sequence (suc n) old.known bytes ≡ sequence_past o (λ k. message_sequence k new.known rest) n in
+    let k : message_sequence (suc n) old.known bytes ≡ message_sequence (suc n) new.known rest =
     subst B m (push_partial n old new piece later f u m s) in
-    let P : Option MessageView → Type 0 = λ o. Follows (handed_on o messages) end (run_of (suc n) old.known bytes) in
-    let Q : Run → Type 0 = λ r. Follows messages end r in
+    let P : Option MessageView → Type 0 = λ o. Follows (handed_on o messages) end (message_sequence (suc n) old.known bytes) in
+    let Q : MessageSequence → Type 0 = λ r. Follows messages end r in
     subst P (sym m) (subst Q (sym k) (ih n (subst E (sym s) e) size))
 
 follows_led :
-    (m : MessageView) (messages : List MessageView) (end : End) (r : Run) → Follows messages end r
+    (m : MessageView) (messages : List MessageView) (end : End) (r : MessageSequence) → Follows messages end r
     → Follows (m ∷ messages) end (led_by m r)
 follows_led m messages end r h = record { same = ap (λ ms. m ∷ ms) h.same; left = h.left }
 
@@ -134,8 +134,8 @@ hands_follow :
     → f.used + length old.held ≡ end_of w → f.message ≡ Some (message_of old.known w (old.held ++ piece))
     → new ≡ record { known = after old.known w.meta; held = [] } → length (old.held ++ (piece ++ later)) ≤ suc n
     → ((m : ℕ) → first new.known new.held ≡ Ok None → length (new.held ++ (drop f.used piece ++ later)) ≤ m
-    → Follows messages end (run_of (suc m) new.known (new.held ++ (drop f.used piece ++ later))))
-    → Follows (handed_on f.message messages) end (run_of (suc (suc n)) old.known (old.held ++ (piece ++ later)))
+    → Follows messages end (message_sequence (suc m) new.known (new.held ++ (drop f.used piece ++ later))))
+    → Follows (handed_on f.message messages) end (message_sequence (suc (suc n)) old.known (old.held ++ (piece ++ later)))
 hands_follow n old new piece later f w messages end e u m s l ih =
     let bytes : List ℕ = old.held ++ (piece ++ later) in
     let rest : List ℕ = new.held ++ (drop f.used piece ++ later) in
@@ -159,15 +159,15 @@ hands_follow n old new piece later f w messages end e u m s l ih =
       length-drop f.used piece,
     ) in
     let B : Option MessageView → Type 0 =
-    λ o. run_of (suc (suc n)) old.known bytes ≡ run_past o (λ k. run_of k new.known rest) (suc n) in
-    let k : run_of (suc (suc n)) old.known bytes ≡ led_by message (run_of (suc n) new.known rest) =
+    λ o. message_sequence (suc (suc n)) old.known bytes ≡ sequence_past o (λ k. message_sequence k new.known rest) (suc n) in
+    let k : message_sequence (suc (suc n)) old.known bytes ≡ led_by message (message_sequence (suc n) new.known rest) =
     subst B m (push_whole (suc n) old new piece later f w e u m s) in
     let P : Option MessageView → Type 0 =
-    λ o. Follows (handed_on o messages) end (run_of (suc (suc n)) old.known bytes) in
-    let Q : Run → Type 0 = λ r. Follows (message ∷ messages) end r in
-    let t : Follows messages end (run_of (suc n) new.known rest) =
+    λ o. Follows (handed_on o messages) end (message_sequence (suc (suc n)) old.known bytes) in
+    let Q : MessageSequence → Type 0 = λ r. Follows (message ∷ messages) end r in
+    let t : Follows messages end (message_sequence (suc n) new.known rest) =
     ih n (subst E (sym s) (nothing_held (after old.known w.meta))) size in
-    subst P (sym m) (subst Q (sym k) (follows_led message messages end (run_of (suc n) new.known rest) t))
+    subst P (sym m) (subst Q (sym k) (follows_led message messages end (message_sequence (suc n) new.known rest) t))
 
 -- a whole message has bytes
 some_bytes :
@@ -189,8 +189,8 @@ pushed_follows :
     (r : Reading (Option Whole)) → first old.known (old.held ++ piece) ≡ r → Frames r old piece f new
     → length (old.held ++ (piece ++ later)) ≤ n
     → ((m : ℕ) → first new.known new.held ≡ Ok None → length (new.held ++ (drop f.used piece ++ later)) ≤ m
-    → Follows messages end (run_of (suc m) new.known (new.held ++ (drop f.used piece ++ later))))
-    → Follows (handed_on f.message messages) end (run_of (suc n) old.known (old.held ++ (piece ++ later)))
+    → Follows messages end (message_sequence (suc m) new.known (new.held ++ (drop f.used piece ++ later))))
+    → Follows (handed_on f.message messages) end (message_sequence (suc n) old.known (old.held ++ (piece ++ later)))
 pushed_follows n old new piece later f messages end (Ok None) e h l ih =
     waits_follow n old new piece later f messages end e h.0 h.1 h.2 l ih
 pushed_follows zero old new piece later f messages end (Ok (Some w)) e h l ih =
@@ -202,19 +202,19 @@ pushed_follows n old new piece later f messages end (Err fs) e h l ih = absurd h
 -- a push that is refused
 refused_by :
     (n : ℕ) (known : Known) (bytes : List ℕ) (c : StreamFault) (r : Reading (Option Whole)) → first known bytes ≡ r
-    → Stands r c
-    → Follows [] (Err c) (run_of (suc n) known bytes)
+    → FailsWith r c
+    → Follows [] (Err c) (message_sequence (suc n) known bytes)
 refused_by n known bytes c (Ok o) e h = absurd h
 refused_by n known bytes c (Err fs) e h =
-    let P : Run → Type 0 = λ r. Follows [] (Err c) r in
+    let P : MessageSequence → Type 0 = λ r. Follows [] (Err c) r in
     subst P (sym (run_step n known bytes (Err fs) e)) (record { same = refl; left = h })
 
 refused_follows :
-    (n : ℕ) (old : Stream) (piece later : List ℕ) (c : StreamFault) → Stands (first old.known (old.held ++ piece)) c
-    → Follows [] (Err c) (run_of (suc n) old.known (old.held ++ (piece ++ later)))
+    (n : ℕ) (old : Stream) (piece later : List ℕ) (c : StreamFault) → FailsWith (first old.known (old.held ++ piece)) c
+    → Follows [] (Err c) (message_sequence (suc n) old.known (old.held ++ (piece ++ later)))
 refused_follows n old piece later c h =
     let bytes : List ℕ = old.held ++ piece in
-    let P : List ℕ → Type 0 = λ bs. Follows [] (Err c) (run_of (suc n) old.known bs) in
+    let P : List ℕ → Type 0 = λ bs. Follows [] (Err c) (message_sequence (suc n) old.known bs) in
     subst P (append_assoc old.held piece later)
     (refused_by n old.known (bytes ++ later) c (first old.known (bytes ++ later)) refl
     (fault_stays old.known bytes later c h))
@@ -223,7 +223,7 @@ feed_follows :
     (old : Stream) (pieces : List (List ℕ)) (messages : List MessageView) (end : End)
     → Feeds old pieces messages end → (n : ℕ) → first old.known old.held ≡ Ok None
     → length (old.held ++ concat pieces) ≤ n
-    → Follows messages end (run_of (suc n) old.known (old.held ++ concat pieces))
+    → Follows messages end (message_sequence (suc n) old.known (old.held ++ concat pieces))
 feed_follows old pieces messages end (ended s) n p l = ended_follows n s p
 feed_follows old pieces messages end (used_up s rest ms e h) n p l = feed_follows s rest ms e h n p l
 feed_follows old pieces messages end (pushed s new piece rest f ms e frames h) n p l =
@@ -234,7 +234,7 @@ feed_follows old pieces messages end (refused s piece rest c h) n p l = refused_
 pub feed_law : FeedFollowsRun
 feed_law old pieces messages end p h =
     let bytes : List ℕ = old.held ++ concat pieces in
-    let P : Run → Type 0 = λ r. Follows messages end r in
+    let P : MessageSequence → Type 0 = λ r. Follows messages end r in
     subst P (run_enough (length bytes) old.known bytes (omega arith))
     (feed_follows old pieces messages end h (length bytes) p (omega arith))
 
@@ -244,16 +244,16 @@ pub agree :
     → AgreeIn rest end other
 agree {S} rest (Ok s) (Ok t) h k = let e : Ok s ≡ Ok t = sym h ∙ k in cc
 agree {S} rest (Err c) (Err d) h k = (h, k)
-agree {S} rest (Ok s) (Err d) h k = let P : Reading S → Type 0 = λ m. Stands m d in absurd (subst P h k)
-agree {S} rest (Err c) (Ok t) h k = let P : Reading S → Type 0 = λ m. Stands m c in absurd (subst P k h)
+agree {S} rest (Ok s) (Err d) h k = let P : Reading S → Type 0 = λ m. FailsWith m d in absurd (subst P h k)
+agree {S} rest (Err c) (Ok t) h k = let P : Reading S → Type 0 = λ m. FailsWith m c in absurd (subst P k h)
 
 pub cuts_law : CutsAgree
 cuts_law old pieces others messages theirs end other p same h k =
-    let P : List ℕ → Type 0 = λ bs. Follows theirs other (whole_run old.known (old.held ++ bs)) in
+    let P : List ℕ → Type 0 = λ bs. Follows theirs other (whole_sequence old.known (old.held ++ bs)) in
     let a = feed_law old pieces messages end p h in
-    let b : Follows theirs other (whole_run old.known (old.held ++ concat pieces)) =
+    let b : Follows theirs other (whole_sequence old.known (old.held ++ concat pieces)) =
     subst P (sym same) (feed_law old others theirs other p k) in
-    (sym a.same ∙ b.same, agree (whole_run old.known (old.held ++ concat pieces)).rest end other a.left b.left)
+    (sym a.same ∙ b.same, agree (whole_sequence old.known (old.held ++ concat pieces)).rest end other a.left b.left)
 
 -- feeding comes to an end
 abbrev Ends : Stream → List (List ℕ) → Type 0
@@ -310,7 +310,7 @@ piece_ends_by n old piece pieces (Ok None) l p e later more = waits_ends old pie
 piece_ends_by n old piece pieces (Ok (Some w)) l p e later more = hands_ends old piece pieces n w l p e more
 piece_ends_by n old piece pieces (Err fs) l p e later more =
     let c = some_fault fs in
-    let P : Reading (Option Whole) → Type 0 = λ r. Stands r c.0 in
+    let P : Reading (Option Whole) → Type 0 = λ r. FailsWith r c.0 in
     ([], Err c.0, refused old piece pieces c.0 (subst P (sym e) c.1))
 
 piece_ends :

@@ -37,7 +37,7 @@ use Rattle.byteorder.specs.Endian.{little_number}
 use Rattle.byteorder.specs.Numbers.{little_from-append}
 use Rattle.values.specs.declared.faults.StreamFault.{StreamFault}
 use Rattle.values.specs.declared.faults.StreamFault.TheVariants as fault
-use Rattle.values.specs.Reading.{Faults, Reading, Stands, Fails, one}
+use Rattle.values.specs.Reading.{Faults, Reading, FailsWith, Fails, one}
 use Rattle.values.proofs.Readings.{fails_along}
 use Rattle.schema_meta.specs.Stage.{Known, Whole, end_meta, end_of}
 use Rattle.schema_meta.specs.Message.{meta_of}
@@ -128,10 +128,10 @@ faults_stay known bytes more fs h =
 
 -- each of them by itself
 pub fault_stays :
-    (known : Known) (bytes more : List ℕ) (c : StreamFault) → Stands (first known bytes) c
-    → Stands (first known (bytes ++ more)) c
+    (known : Known) (bytes more : List ℕ) (c : StreamFault) → FailsWith (first known bytes) c
+    → FailsWith (first known (bytes ++ more)) c
 fault_stays known bytes more c h =
-    let P : Reading (Option Whole) → Type 0 = λ m. Stands m c in
+    let P : Reading (Option Whole) → Type 0 = λ m. FailsWith m c in
     elim (first_stable known bytes more) [ inl n ↦ absurd (subst P n h) | inr e ↦ subst P (sym e) h ]
 
 pub fails_stays :

@@ -2,7 +2,7 @@
 use Rattle.std.proofs.Common.{◌≡◌, inl, inr, ℕ, ◌+◌, ◌-◌, ◌<◌, ◌≤◌, None, Ok, Option, List, [], length, refl, ap, sym, subst, ◌∙◌, arith, append-nil}
 use Rattle.std.specs.Prelude.{slice_range}
 use Rattle.flatbuf.specs.Layout.{Table, root_of}
-use Rattle.values.specs.Reading.{Reading, Stands, ◌>>=◌, must}
+use Rattle.values.specs.Reading.{Reading, FailsWith, ◌>>=◌, must}
 use Rattle.values.specs.declared.faults.StreamFault.{StreamFault}
 use Rattle.values.specs.declared.faults.StreamFault.TheVariants as fault
 use Rattle.values.proofs.Readings.{bind_Ok, mapped_Ok}
@@ -61,13 +61,13 @@ body-read known bytes m root t n is there body e =
     cc
 
 pub body-faultless : (known : Known) (bytes : List ℕ) (m : Meta) (root : Option Table) (t : Table) (c : StreamFault)
-    → root ≡ root_of bytes → must fault.BadTable root ≡ Ok t → Stands (body_of t) c → meta_of known bytes ≡ Ok m → ⊥
+    → root ≡ root_of bytes → must fault.BadTable root ≡ Ok t → FailsWith (body_of t) c → meta_of known bytes ≡ Ok m → ⊥
 body-faultless known bytes m root t c is there stands e =
     let p = meta-body known bytes m e in
     let same : must fault.BadTable root ≡ Ok p.0 = ap (must fault.BadTable) is ∙ p.1 in
     let table : t ≡ p.0 = cc in
     let other : body_of t ≡ Ok m.body = ap body_of table ∙ p.2 in
-    subst (λ (r : Reading ℕ). Stands r c) other stands
+    subst (λ (r : Reading ℕ). FailsWith r c) other stands
 
 -- what is held has no whole body
 body-beyond : (len front : ℕ) (m : Meta) → body_at len front m ≡ Ok None → len < front + m.body

@@ -65,7 +65,7 @@ use Rattle.schema_meta.specs.Stage.{Known, Whole}
 use Rattle.schema_meta.specs.Story.{fields_of}
 use Rattle.schema_meta.specs.Message.{version_of, kind_of, header_table, body_of, record_batch, header_of, meta_of}
 use Rattle.schema_meta.specs.Framing.{framed, message_at, staged, first}
-use Rattle.messages.specs.Run.{run_of, whole_run}
+use Rattle.messages.specs.MessageSequence.{message_sequence, whole_sequence}
 
 abbrev message : List ℕ
 message =
@@ -148,7 +148,7 @@ end_mark = 255 ∷ 255 ∷ 255 ∷ 255 ∷ 0 ∷ 0 ∷ 0 ∷ 0 ∷ []
 
 -- the batch, the end mark, and the beginning of a third message
 pub messages :
-    whole_run open_stream (message ++ (end_mark ++ (255 ∷ 255 ∷ [])))
+    whole_sequence open_stream (message ++ (end_mark ++ (255 ∷ 255 ∷ [])))
     ≡ record {
       messages =
           record { schema = fields_of open_stream; header = header.Batch sample_header; body = drop 208 message }
@@ -158,5 +158,5 @@ pub messages :
 unfolding number_at signed_at target_at bytes_at block_at place_of_vtable vtable_at table_at root_of slot_of number_of
     signed_of structs_of subtable_of vector_at vector_of entry_of each long_at node_of range_of rows_of nodes_in
     nodes_of ranges_in ranges_of plain batch_of lengths_fit short_of version_of kind_of header_table body_of
-    record_batch header_of meta_of framed message_at staged first run_of
+    record_batch header_of meta_of framed message_at staged first message_sequence
 messages = refl

@@ -1,7 +1,7 @@
 -- A stream that comes in pieces, by what each push answers.
 use Rattle.std.specs.Prelude.{ℕ, List, [], ◌∷◌, ◌++◌, drop, Option, None, Some, Result, Ok, Err}
 use Rattle.values.specs.declared.faults.StreamFault.{StreamFault}
-use Rattle.values.specs.Reading.{Stands}
+use Rattle.values.specs.Reading.{FailsWith}
 use Rattle.schema_meta.specs.Framing.{first}
 use Rattle.messages.specs.declared.headers.Framed.{Framed}
 use Rattle.messages.specs.Handed.{MessageView}
@@ -31,4 +31,4 @@ pub data Feeds : Stream → List (List ℕ) → List MessageView → End → Typ
       → Feeds old (piece ∷ pieces) (handed_on f.message messages) end
   -- A push is refused.
   refused : (old : Stream) (piece : List ℕ) (pieces : List (List ℕ)) (c : StreamFault)
-      → Stands (first old.known (old.held ++ piece)) c → Feeds old (piece ∷ pieces) [] (Err c)
+      → FailsWith (first old.known (old.held ++ piece)) c → Feeds old (piece ∷ pieces) [] (Err c)

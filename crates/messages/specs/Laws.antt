@@ -2,14 +2,14 @@
 use Rattle.std.specs.Prelude.{◌≡◌, ℕ, suc, ◌≤◌, List, [], ◌++◌, length, take, drop, None, Some, Result, Ok, Err}
 use Rattle.std.specs.List.{concat}
 use Rattle.values.specs.declared.faults.StreamFault.{StreamFault}
-use Rattle.values.specs.Reading.{Faults, Yields, Reading, Stands}
+use Rattle.values.specs.Reading.{Faults, Yields, Reading, FailsWith}
 use Rattle.schema_meta.specs.Stage.{Known, Whole, end_of}
 use Rattle.schema_meta.specs.Framing.{first}
 use Rattle.messages.specs.declared.headers.Framed.{Framed}
 use Rattle.messages.specs.Handed.{MessageView}
 use Rattle.messages.specs.MessageLaw.{MessageLaw}
 use Rattle.messages.specs.Stream.{Stream, Frames}
-use Rattle.messages.specs.Run.{Run, run_of, run_past, whole_run}
+use Rattle.messages.specs.MessageSequence.{MessageSequence, message_sequence, sequence_past, whole_sequence}
 use Rattle.messages.specs.Feeding.{End, Feeds}
 
 -- Bytes after a whole message change nothing of it.
@@ -25,8 +25,8 @@ WholeWithin = (known : Known) (bytes : List ℕ) (w : Whole) → first known byt
 -- A fault that stands does so whatever follows.
 abbrev pub FaultStays : Type 0
 FaultStays =
-    (known : Known) (bytes more : List ℕ) (c : StreamFault) → Stands (first known bytes) c
-    → Stands (first known (bytes ++ more)) c
+    (known : Known) (bytes more : List ℕ) (c : StreamFault) → FailsWith (first known bytes) c
+    → FailsWith (first known (bytes ++ more)) c
 
 -- Nor does another fault come to stand beside it.
 abbrev pub FaultsStay : Type 0
@@ -61,17 +61,17 @@ abbrev pub PushKeepsRun : Type 0
 PushKeepsRun =
     (n : ℕ) (old new : Stream) (piece later : List ℕ) (f : Framed)
     → Frames (first old.known (old.held ++ piece)) old piece f new
-    → run_of (suc n) old.known (old.held ++ (piece ++ later))
-    ≡ run_past f.message (λ k. run_of k new.known (new.held ++ (drop f.used piece ++ later))) n
+    → message_sequence (suc n) old.known (old.held ++ (piece ++ later))
+    ≡ sequence_past f.message (λ k. message_sequence k new.known (new.held ++ (drop f.used piece ++ later))) n
 
 -- A refusal names a fault at which the messages end, whatever comes later.
 abbrev pub RefusalEndsRun : Type 0
 RefusalEndsRun =
-    (n : ℕ) (old : Stream) (piece later : List ℕ) (c : StreamFault) → Stands (first old.known (old.held ++ piece)) c
-    → Stands (run_of (suc n) old.known (old.held ++ (piece ++ later))).rest c
+    (n : ℕ) (old : Stream) (piece later : List ℕ) (c : StreamFault) → FailsWith (first old.known (old.held ++ piece)) c
+    → FailsWith (message_sequence (suc n) old.known (old.held ++ (piece ++ later))).rest c
 
 -- these messages and this end are those of a run
-pub record Follows (messages : List MessageView) (end : End) (r : Run) : Type 0 where
+pub record Follows (messages : List MessageView) (end : End) (r : MessageSequence) : Type 0 where
   pub same : r.messages ≡ messages
   pub left : Yields (λ s. s) end r.rest
 
@@ -81,12 +81,12 @@ abbrev pub FeedFollowsRun : Type 0
 FeedFollowsRun =
     (old : Stream) (pieces : List (List ℕ)) (messages : List MessageView) (end : End)
     → first old.known old.held ≡ Ok None → Feeds old pieces messages end
-    → Follows messages end (whole_run old.known (old.held ++ concat pieces))
+    → Follows messages end (whole_sequence old.known (old.held ++ concat pieces))
 
 -- the same is left, or both refusals name faults of the same set
 abbrev pub AgreeIn : {S : Type 0} → Reading S → Result S StreamFault → Result S StreamFault → Type 0
 AgreeIn rest (Ok s) (Ok t) = s ≡ t
-AgreeIn rest (Err c) (Err d) = Stands rest c × Stands rest d
+AgreeIn rest (Err c) (Err d) = FailsWith rest c × FailsWith rest d
 AgreeIn rest (Ok s) (Err d) = ⊥
 AgreeIn rest (Err c) (Ok t) = ⊥
 
@@ -96,7 +96,7 @@ CutsAgree =
     (old : Stream) (pieces others : List (List ℕ)) (messages theirs : List MessageView) (end other : End)
     → first old.known old.held ≡ Ok None → concat pieces ≡ concat others → Feeds old pieces messages end
     → Feeds old others theirs other
-    → (messages ≡ theirs) × AgreeIn (whole_run old.known (old.held ++ concat pieces)).rest end other
+    → (messages ≡ theirs) × AgreeIn (whole_sequence old.known (old.held ++ concat pieces)).rest end other
 
 -- Each list of pieces can be fed to its end.
 abbrev pub FeedsEnd : Type 0

@@ -8,6 +8,6 @@ pub mod Gather
 pub mod Stream
 pub mod Ready
 pub mod Laws
-pub mod Run
+pub mod MessageSequence
 pub mod Feeding
 pub mod MessageLaw

@@ -57,7 +57,7 @@ use Rattle.row_keys.specs.Batches.{AreAlike, HoldsCells, IsAlike, IsBatch, batch
 use Rattle.row_keys.specs.RefusedRows.{RefusesRows, are_many}
 use Rattle.row_keys.specs.KeyColumns.{HoldsKeys, PushesKeys, RefusesKeys, fresh}
 use Rattle.row_keys.specs.Numbers.{Numbered, live_count, numbered}
-use Rattle.row_keys.specs.Slots.{CanTakeBack, Slot, live, new_slot, taken_back, contents_of}
+use Rattle.row_keys.specs.Slots.{CanRevert, Slot, live, new_slot, reverted, contents_of}
 use Rattle.row_keys.specs.Store.{Refuses}
 use Rattle.row_keys.specs.Stored.{AreGiven, AreKeyed, IsRight, IsStored, joined, live_keys}
 use Rattle.row_keys.proofs.LightRows.{none_heavy}
@@ -330,11 +330,11 @@ module _ {t : Table} {stored : List (List Datum)} {xs new : List Numbered} {colu
 
 pub appended_back :
     (slots new : List Slot) (columns : List CheckedColumn) (n : ℕ) → new ≡ slots ++ map new_slot (batch_rows n columns)
-    → CanTakeBack n new × (taken_back n new ≡ slots)
+    → CanRevert n new × (reverted n new ≡ slots)
 appended_back slots new columns n is =
-    let P : ℕ → Type 0 = λ m. CanTakeBack m (slots ++ map new_slot (batch_rows n columns))
-    × (taken_back m (slots ++ map new_slot (batch_rows n columns)) ≡ slots) in
-    let Q : List Slot → Type 0 = λ ss. CanTakeBack n ss × (taken_back n ss ≡ slots) in
+    let P : ℕ → Type 0 = λ m. CanRevert m (slots ++ map new_slot (batch_rows n columns))
+    × (reverted m (slots ++ map new_slot (batch_rows n columns)) ≡ slots) in
+    let Q : List Slot → Type 0 = λ ss. CanRevert n ss × (reverted n ss ≡ slots) in
     subst Q (sym is)
     (subst P (batch_counted columns n) (
       can_take_added slots (batch_rows n columns),

@@ -33,7 +33,7 @@ use Rattle.view_lang.specs.Config.{Table}
 use Rattle.view_lang.specs.Contents.{Contents, is_among, key_in, keys_in}
 use Rattle.row_keys.specs.NumberLaws.{ReleasedUnseen}
 use Rattle.row_keys.specs.Numbered.{numbered_from}
-use Rattle.row_keys.specs.Slots.{AllOut, AreRetracted, CanPutBack, CanRetract, CanTakeBack, IsOut, IsThere, Slot, contents_of, emptied, live, marked, no_slot, put_back, row_of, slot, taken_back}
+use Rattle.row_keys.specs.Slots.{AllOut, AreRetracted, CanPutBack, CanRetract, CanRevert, IsOut, IsThere, Slot, contents_of, emptied, live, marked, no_slot, put_back, reverted, row_of, slot}
 
 -- The row of this number isn't live.
 abbrev pub IsOff : List Slot → ℕ → Type 0
@@ -233,21 +233,21 @@ can_retract_emptied (m ∷ ms) slots n off can =
           (can_retract_emptied ms (marked false slots m) n (off_false slots m n off) can.1),
     )
 
-pub taken_emptied : (k : ℕ) (slots : List Slot) (n : ℕ) → taken_back k (emptied slots n) ≡ emptied (taken_back k slots) n
-unfolding taken_back
+pub taken_emptied : (k : ℕ) (slots : List Slot) (n : ℕ) → reverted k (emptied slots n) ≡ emptied (reverted k slots) n
+unfolding reverted
 taken_emptied k slots n =
     ap (λ l. take (l - k) (emptied slots n)) (length_emptied slots n) ∙ take_emptied (length slots - k) slots n
 
-pub off_taken_back : (k : ℕ) (slots : List Slot) (n : ℕ) → IsOff slots n → IsOff (taken_back k slots) n
-unfolding taken_back
-off_taken_back k slots n off = off_taken (length slots - k) slots n off
+pub off_reverted : (k : ℕ) (slots : List Slot) (n : ℕ) → IsOff slots n → IsOff (reverted k slots) n
+unfolding reverted
+off_reverted k slots n off = off_taken (length slots - k) slots n off
 
-pub out_untaken_back : (k : ℕ) (slots : List Slot) (n : ℕ) → IsOut (taken_back k slots) n → IsOut slots n
-unfolding taken_back
-out_untaken_back k slots n out = out_untaken (length slots - k) slots n out
+pub out_unreverted : (k : ℕ) (slots : List Slot) (n : ℕ) → IsOut (reverted k slots) n → IsOut slots n
+unfolding reverted
+out_unreverted k slots n out = out_untaken (length slots - k) slots n out
 
-pub can_take_emptied : (k : ℕ) (slots : List Slot) (n : ℕ) → CanTakeBack k slots → CanTakeBack k (emptied slots n)
-unfolding CanTakeBack
+pub can_take_emptied : (k : ℕ) (slots : List Slot) (n : ℕ) → CanRevert k slots → CanRevert k (emptied slots n)
+unfolding CanRevert
 can_take_emptied k slots n can = subst (λ l. k ≤ l) (sym (length_emptied slots n)) can
 
 -- which rows a change can bring back
@@ -275,9 +275,9 @@ all_out t (m ∷ ms) slots are = (
   all_out t ms slots are.0,
 )
 
-pub all_untaken : (k : ℕ) (ns : List ℕ) (slots : List Slot) → AllOut ns (taken_back k slots) → AllOut ns slots
+pub all_untaken : (k : ℕ) (ns : List ℕ) (slots : List Slot) → AllOut ns (reverted k slots) → AllOut ns slots
 all_untaken k [] slots out = tt
-all_untaken k (n ∷ ns) slots out = (out_untaken_back k slots n out.0, all_untaken k ns slots out.1)
+all_untaken k (n ∷ ns) slots out = (out_unreverted k slots n out.0, all_untaken k ns slots out.1)
 
 -- Several rows are gone.
 

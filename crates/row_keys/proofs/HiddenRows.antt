@@ -40,8 +40,8 @@ use Rattle.row_keys.specs.Slots.{
   AreRetracted,
   CanPutBack,
   CanRetract,
+  CanRevert,
   CanShowPut,
-  CanTakeBack,
   CanUndoPut,
   IsThere,
   Slot,
@@ -54,9 +54,9 @@ use Rattle.row_keys.specs.Slots.{
   put_shown,
   put_undone,
   retracted,
+  reverted,
   row_of,
   slot,
-  taken_back,
 }
 use Rattle.row_keys.proofs.AppendedBatches.{batch_counted}
 use Rattle.row_keys.proofs.Places.{at_more, take_front}
@@ -139,28 +139,28 @@ can_hide_new slots new columns n is =
 abbrev rest : ℕ → List Slot → List Slot
 rest n slots = drop (length slots - n) slots
 
-rest_long : (n : ℕ) (slots : List Slot) → CanTakeBack n slots → length (rest n slots) ≡ n
-unfolding CanTakeBack
+rest_long : (n : ℕ) (slots : List Slot) → CanRevert n slots → length (rest n slots) ≡ n
+unfolding CanRevert
 rest_long n slots few = let many = length-drop (length slots - n) slots in omega (arith, many, few)
 
-front_rest : (n : ℕ) (slots : List Slot) → taken_back n slots ++ rest n slots ≡ slots
-unfolding taken_back
+front_rest : (n : ℕ) (slots : List Slot) → reverted n slots ++ rest n slots ≡ slots
+unfolding reverted
 front_rest n slots = take-append-drop (length slots - n) slots
 
-front_long : (n : ℕ) (slots : List Slot) → CanTakeBack n slots → length slots - n ≡ length (taken_back n slots)
-unfolding CanTakeBack
+front_long : (n : ℕ) (slots : List Slot) → CanRevert n slots → length slots - n ≡ length (reverted n slots)
+unfolding CanRevert
 front_long n slots few =
     let tail = rest_long n slots few in
-    let many = length-append (taken_back n slots) (rest n slots) in
-    let all : length (taken_back n slots ++ rest n slots) ≡ length slots = ap length (front_rest n slots) in
+    let many = length-append (reverted n slots) (rest n slots) in
+    let all : length (reverted n slots ++ rest n slots) ≡ length slots = ap length (front_rest n slots) in
     omega (arith, few, tail, many, all)
 
-last_off : (n : ℕ) (slots : List Slot) → CanTakeBack n slots
-    → retracted (last_numbers n slots) slots ≡ taken_back n slots ++ all_off (rest n slots)
+last_off : (n : ℕ) (slots : List Slot) → CanRevert n slots
+    → retracted (last_numbers n slots) slots ≡ reverted n slots ++ all_off (rest n slots)
 last_off n slots few =
     ap (λ m. retracted (range_with_len (length slots - n) m) slots) (sym (rest_long n slots few))
     ∙ ap (λ ss. retracted (range_with_len (length slots - n) (length (rest n slots))) ss) (sym (front_rest n slots))
-    ∙ range_off (rest n slots) (taken_back n slots) (length slots - n) (front_long n slots few)
+    ∙ range_off (rest n slots) (reverted n slots) (length slots - n) (front_long n slots few)
 
 -- rows in front of retracted ones
 
@@ -229,8 +229,8 @@ are_of : (t : Table) (ns : List ℕ) (slots : List Slot) → CanPutBack t ns slo
 unfolding CanPutBack
 are_of t ns slots can = can.0
 
-taken_front : (n : ℕ) (xs ys : List Slot) → length ys ≡ n → taken_back n (xs ++ ys) ≡ xs
-unfolding taken_back
+taken_front : (n : ℕ) (xs ys : List Slot) → length ys ≡ n → reverted n (xs ++ ys) ≡ xs
+unfolding reverted
 taken_front n xs ys long =
     let many = length-append xs ys in
     let less : length (xs ++ ys) - n ≡ length xs = omega (arith, many, long) in
@@ -243,12 +243,12 @@ module _ (t : Table) (n : ℕ) (ns : List ℕ) (slots : List Slot) where
   pub hide_can : CanUndoPut t n ns slots → CanPutBack t ns (retracted (last_numbers n slots) slots)
   hide_can can =
       let P : List Slot → Type 0 = λ ss. CanPutBack t ns ss in
-      subst P (sym (last_off n slots can.0)) (can_front t ns (taken_back n slots) (rest n slots) can.1)
+      subst P (sym (last_off n slots can.0)) (can_front t ns (reverted n slots) (rest n slots) can.1)
 
   hidden_is : CanUndoPut t n ns slots → put_hidden n ns slots ≡ put_undone n ns slots ++ all_off (rest n slots)
   hidden_is can =
       ap (λ ss. put_back ns ss) (last_off n slots can.0)
-      ∙ back_front t ns (taken_back n slots) (all_off (rest n slots)) (are_of t ns (taken_back n slots) can.1)
+      ∙ back_front t ns (reverted n slots) (all_off (rest n slots)) (are_of t ns (reverted n slots) can.1)
 
   pub hidden_live : CanUndoPut t n ns slots → live (put_hidden n ns slots) ≡ live (put_undone n ns slots)
   hidden_live can = ap live (hidden_is can) ∙ live_front (put_undone n ns slots) (rest n slots)
@@ -257,13 +257,13 @@ module _ (t : Table) (n : ℕ) (ns : List ℕ) (slots : List Slot) where
   hidden_long =
       length_put_back ns (retracted (last_numbers n slots) slots) ∙ length_retracted (last_numbers n slots) slots
 
-  pub hidden_take : CanUndoPut t n ns slots → CanTakeBack n (put_hidden n ns slots)
-  unfolding CanTakeBack
+  pub hidden_take : CanUndoPut t n ns slots → CanRevert n (put_hidden n ns slots)
+  unfolding CanRevert
   hidden_take can = let long = hidden_long in let few = can.0 in omega (arith, long, few)
 
-  pub hidden_taken : CanUndoPut t n ns slots → taken_back n (put_hidden n ns slots) ≡ put_undone n ns slots
+  pub hidden_taken : CanUndoPut t n ns slots → reverted n (put_hidden n ns slots) ≡ put_undone n ns slots
   hidden_taken can =
-      ap (λ ss. taken_back n ss) (hidden_is can)
+      ap (λ ss. reverted n ss) (hidden_is can)
       ∙ taken_front n (put_undone n ns slots) (all_off (rest n slots))
       (length-map (rest n slots) (λ s. slot s.row false) ∙ rest_long n slots can.0)
 
@@ -292,6 +292,6 @@ module _ (t : Table) (n : ℕ) (ns : List ℕ) (slots : List Slot) where
         subst P (sym hidden_last) (subst Q (sym (hidden_off can)) back),
       )
 
-  pub show_few : CanTakeBack n slots → CanTakeBack n (retracted ns slots)
-  unfolding CanTakeBack
+  pub show_few : CanRevert n slots → CanRevert n (retracted ns slots)
+  unfolding CanRevert
   show_few few = let long = length_retracted ns slots in omega (arith, long, few)

@@ -39,7 +39,7 @@ use Rattle.view_lang.specs.Contents.{applied, is_among, key_in, keys_in, same_ke
 use Rattle.view_lang.specs.Edits.{append}
 use Rattle.row_keys.specs.Numbers.{AreDistinct, IsAt, IsUnused, Numbered, live_count, numbered, turned}
 use Rattle.row_keys.specs.Slots.{
-  CanTakeBack,
+  CanRevert,
   IsThere,
   Slot,
   live,
@@ -47,7 +47,7 @@ use Rattle.row_keys.specs.Slots.{
   new_slot,
   row_of,
   slot,
-  taken_back,
+  reverted,
   contents_of,
 }
 use Rattle.row_keys.specs.Stored.{AreKeyed, joined, live_keys}
@@ -205,16 +205,16 @@ world_added t slots rows =
     ∙ ap (λ n. record { live = live slots ++ rows; appended = n }) (added_length slots rows)
 
 pub taken_added : (slots : List Slot) (rows : List (List Datum))
-    → taken_back (length rows) (slots ++ map new_slot rows) ≡ slots
-unfolding taken_back
+    → reverted (length rows) (slots ++ map new_slot rows) ≡ slots
+unfolding reverted
 taken_added slots rows =
     let many = added_length slots rows in
     let less : length (slots ++ map new_slot rows) - length rows ≡ length slots = omega (arith, many) in
     ap (λ n. take n (slots ++ map new_slot rows)) less ∙ take_front slots (map new_slot rows)
 
 pub can_take_added : (slots : List Slot) (rows : List (List Datum))
-    → CanTakeBack (length rows) (slots ++ map new_slot rows)
-unfolding CanTakeBack
+    → CanRevert (length rows) (slots ++ map new_slot rows)
+unfolding CanRevert
 can_take_added slots rows = let many = added_length slots rows in omega (arith, many)
 
 -- keys of live rows

@@ -3,31 +3,18 @@ use Rattle.std.proofs.Common.{◌≡◌, false, None, refl, sym}
 use Rattle.std.specs.Prelude.{IsSome}
 use Rattle.std.proofs.lemmas.Option.{none-some}
 use Rattle.values.specs.ColTypes.{IsSingle, layout_of}
-use Rattle.values.specs.Datum.{Datum, Items, null, truth, whole, text, bytes, list, structure}
+use Rattle.values.specs.Datum.{Datum, null, truth, whole, text, bytes, list, structure}
 use Rattle.values.specs.Keys.{datum_of_key, key_of}
 use Rattle.values.specs.Layouts.{Holds}
 use Rattle.values.specs.Logical.{NamedType, tree_of}
 use Rattle.values.specs.Rose.{Rose, Roses, node}
 use Rattle.values.specs.declared.col_type.ColType.{ColType}
-use Rattle.values.specs.declared.col_type.ColType.TheVariants as col
 use Rattle.values.specs.declared.key.Key.{Key}
 use Rattle.values.specs.declared.key.Key.TheVariants as key
 use Rattle.values.specs.declared.layout.Layout.{Layout}
+use Rattle.values.proofs.SingleCells.{no_list, no_structure}
 use Rattle.view_lang.specs.Contents.{same_key}
 use Rattle.view_lang.specs.TableRules.{type_of}
-
--- Only a type with children holds a list or a struct.
-
-no_list : (t : ColType) (kids : Roses Layout) (es : Items) → IsSingle t → Holds (node (layout_of t) kids) (list es) → ⊥
-no_list (col.List o) kids es single held = single
-no_list col.Struct kids es single held = single
-no_list t kids es single held = held
-
-no_structure :
-    (t : ColType) (kids : Roses Layout) (es : Items) → IsSingle t → Holds (node (layout_of t) kids) (structure es) → ⊥
-no_structure (col.List o) kids es single held = single
-no_structure col.Struct kids es single held = single
-no_structure t kids es single held = held
 
 single_key : (t : ColType) (kids : Roses Layout) (d : Datum) → IsSingle t → Holds (node (layout_of t) kids) d
     → IsSome (key_of d)

@@ -33,7 +33,7 @@ use Rattle.values.specs.Datum.{Datum}
 use Rattle.values.specs.declared.key.Key.{Key}
 use Rattle.view_lang.specs.Config.{Table}
 use Rattle.row_keys.specs.Numbers.{AreLive, CanRevive, CanTurnOn, IsAt, Numbered, revived, turned, turned_off}
-use Rattle.row_keys.specs.Slots.{CanPutBack, CanRetract, CanTakeBack, last_numbers}
+use Rattle.row_keys.specs.Slots.{CanPutBack, CanRetract, CanRevert, last_numbers}
 use Rattle.row_keys.specs.Stored.{IsStored, joined}
 use Rattle.row_keys.proofs.JoinedNumbers.{keyed_length}
 use Rattle.row_keys.proofs.StoreStates.{revive_can}
@@ -109,9 +109,9 @@ revived_none end rows = sym (ap (λ ms. revived ms rows) (from_end end end (omeg
 -- The last numbers of a store are those from a number on.
 pub from_last :
     (t : Table) (stored : List (List Datum)) (xs : List Numbered) (n len : ℕ)
-    → IsStored t stored xs → CanTakeBack n (joined stored xs) → len ≡ length xs
+    → IsStored t stored xs → CanRevert n (joined stored xs) → len ≡ length xs
     → from (len - n) (length xs) ≡ last_numbers n (joined stored xs)
-unfolding CanTakeBack
+unfolding CanRevert
 from_last t stored xs n len is few long =
     let many = (keyed_length t stored xs is.keyed).1 in
     let first : len - n ≡ length (joined stored xs) - n = omega (arith, many, long) in
@@ -119,7 +119,7 @@ from_last t stored xs n len is few long =
     ap (λ k. range_with_len (len - n) k) left ∙ ap (λ k. range_with_len k n) first
 
 module _ (t : Table) (stored : List (List Datum)) (xs : List Numbered) (n len : ℕ) where
-  pub live_last : IsStored t stored xs → CanTakeBack n (joined stored xs) → len ≡ length xs
+  pub live_last : IsStored t stored xs → CanRevert n (joined stored xs) → len ≡ length xs
       → CanRetract (last_numbers n (joined stored xs)) (joined stored xs)
       → AreLive (from (len - n) (length xs)) xs
   live_last is few long can =
@@ -127,7 +127,7 @@ module _ (t : Table) (stored : List (List Datum)) (xs : List Numbered) (n len : 
       subst P (sym (from_last t stored xs n len is few long))
       (are_live t stored (last_numbers n (joined stored xs)) xs is.keyed can)
 
-  pub revive_last : IsStored t stored xs → CanTakeBack n (joined stored xs) → len ≡ length xs
+  pub revive_last : IsStored t stored xs → CanRevert n (joined stored xs) → len ≡ length xs
       → CanPutBack t (last_numbers n (joined stored xs)) (joined stored xs)
       → CanRevive (from (len - n) (length xs)) xs
   revive_last is few long can =

@@ -38,8 +38,8 @@ mod NumberLaw
 mod PutLaw
 mod CellsInPlace
 mod ListedItems
-mod KeptEntries
-mod KeptIndex
+mod RetainedEntries
+mod RetainedIndex
 mod RowPlaces
 mod RowsOfChunks
 mod ChunkedRows
@@ -59,4 +59,4 @@ mod RetractedKeys
 mod ChangeKinds
 pub mod NumberRanges
 mod NamedRows
-mod PlacedRows
+mod LocatedRows

@@ -7,7 +7,7 @@ use Rattle.values.specs.Datum.{Datum}
 use Rattle.view_lang.specs.Config.{Table}
 use Rattle.view_lang.specs.Rows.{IsRow}
 use Rattle.row_keys.specs.Numbers.{Numbered}
-use Rattle.row_keys.specs.Places.{row_if}
+use Rattle.row_keys.specs.Locations.{row_if}
 use Rattle.row_keys.specs.Slots.{no_slot, row_of}
 use Rattle.row_keys.specs.Stored.{IsStored, joined}
 use Rattle.row_keys.proofs.HeldRows.{rows_right}

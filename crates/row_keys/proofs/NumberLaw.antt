@@ -14,13 +14,13 @@ use Rattle.row_keys.specs.NumberLaws.{
   PutBackCome,
   RetractedGo,
   RetractedWereLive,
+  RevertedGo,
   RowsAreAtNumbers,
   RowsAreLive,
-  TakenBackGo,
   with_new,
 }
 use Rattle.row_keys.specs.Numbered.{live_at, numbered}
-use Rattle.row_keys.specs.Slots.{CanPutBack, CanTakeBack, put_back, retracted, row_of, taken_back}
+use Rattle.row_keys.specs.Slots.{CanPutBack, CanRevert, put_back, retracted, reverted, row_of}
 use Rattle.row_keys.proofs.NumberedChanges.{Up, is_named, leads}
 use Rattle.row_keys.proofs.RowsByNumber.{
   all_free,
@@ -30,7 +30,7 @@ use Rattle.row_keys.proofs.RowsByNumber.{
   at_numbered,
   at_put_back,
   at_retracted,
-  at_taken_back,
+  at_reverted,
   distinct_put_back,
   distinct_range,
   distinct_retracted,
@@ -79,13 +79,13 @@ new_come slots rows =
     (λ m. at_numbered (with_new slots rows) m ∙ at_appended slots rows m
     ∙ sym (ap (λ o. cond (is_named m ns) (Some (row_of (with_new slots rows) m)) o) (at_numbered slots m)))
 
-pub taken_back_go : TakenBackGo
-unfolding CanTakeBack taken_back
-taken_back_go n slots few =
+pub reverted_go : RevertedGo
+unfolding CanRevert reverted
+reverted_go n slots few =
     let ns = range_with_len (length slots - n) n in
-    leads (live_at slots) (λ n. None) ns (numbered slots) (numbered (taken_back n slots)) (numbered_up 0 slots)
-    (numbered_up 0 (taken_back n slots)) (distinct_range (length slots - n) n) (all_numbered slots ns)
-    (λ m. at_numbered (taken_back n slots) m ∙ at_taken_back n slots m few
+    leads (live_at slots) (λ n. None) ns (numbered slots) (numbered (reverted n slots)) (numbered_up 0 slots)
+    (numbered_up 0 (reverted n slots)) (distinct_range (length slots - n) n) (all_numbered slots ns)
+    (λ m. at_numbered (reverted n slots) m ∙ at_reverted n slots m few
     ∙ sym (ap (λ o. cond (is_named m ns) None o) (at_numbered slots m)))
 
 up_none : Up []

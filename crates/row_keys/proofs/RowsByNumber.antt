@@ -439,10 +439,10 @@ cut_off (s ∷ ss) zero m h = refl
 cut_off (s ∷ ss) (suc k) zero h = absurd (omega (arith, h))
 cut_off (s ∷ ss) (suc k) (suc m) h = cut_off ss k m (omega (arith, h))
 
-pub at_taken_back : (n : ℕ) (slots : List Slot) (m : ℕ) → n ≤ length slots
+pub at_reverted : (n : ℕ) (slots : List Slot) (m : ℕ) → n ≤ length slots
     → live_at (take (length slots - n) slots) m
     ≡ cond (is_named m (range_with_len (length slots - n) n)) None (live_at slots m)
-at_taken_back n slots m few = elim (either m (length slots - n)) [
+at_reverted n slots m few = elim (either m (length slots - n)) [
   | inl x ↦ ap live_row (in_front slots (length slots - n) m x)
       ∙ sym (ap (λ b. cond b None (live_at slots m)) (range_before m (length slots - n) n x))
   | inr x ↦ cut_off slots (length slots - n) m x ∙ elim (either m (length slots)) [

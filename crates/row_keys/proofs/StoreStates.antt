@@ -31,7 +31,7 @@ use Rattle.row_keys.specs.Slots.{
   AllOut,
   CanPutBack,
   CanRetract,
-  CanTakeBack,
+  CanRevert,
   HasKey,
   IsOut,
   Slot,
@@ -43,9 +43,9 @@ use Rattle.row_keys.specs.Slots.{
   put_back,
   released,
   retracted,
+  reverted,
   row_of,
   slot,
-  taken_back,
 }
 use Rattle.row_keys.specs.Store.{IsAbsent, IsFound, Store, with_slots}
 use Rattle.row_keys.specs.Stored.{AreKeyed, IsRight, IsStored, joined}
@@ -200,16 +200,16 @@ stored_taken t stored xs k is = record {
 
 pub taken_slots :
     (t : Table) (stored : List (List Datum)) (xs : List Numbered) (n : ℕ) → IsStored t stored xs
-    → joined (take (length xs - n) stored) (take (length xs - n) xs) ≡ taken_back n (joined stored xs)
-unfolding taken_back
+    → joined (take (length xs - n) stored) (take (length xs - n) xs) ≡ reverted n (joined stored xs)
+unfolding reverted
 taken_slots t stored xs n is =
     joined_taken (length xs - n) stored xs
     ∙ ap (λ m. take (m - n) (joined stored xs)) (sym (keyed_length t stored xs is.keyed).1)
 
 pub can_take :
     (t : Table) (stored : List (List Datum)) (xs : List Numbered) (n : ℕ) → IsStored t stored xs
-    → CanTakeBack n (joined stored xs) → n ≤ length xs
-unfolding CanTakeBack
+    → CanRevert n (joined stored xs) → n ≤ length xs
+unfolding CanRevert
 can_take t stored xs n is can = let many = (keyed_length t stored xs is.keyed).1 in omega (arith, many, can)
 
 -- a row that is opened

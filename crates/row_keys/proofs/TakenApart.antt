@@ -9,23 +9,23 @@ use Rattle.std.proofs.lemmas.List.Elements.{All-cons, All-nil}
 use Rattle.std.proofs.lemmas.Option.{none-some, slice_get-get_or, slice_get_read, slice_get_within}
 use Rattle.values.specs.declared.key.Key.{Key}
 use Rattle.row_keys.specs.declared.numbers.Entry.{Entry}
-use Rattle.row_keys.specs.declared.numbers.KeptEntry.{KeptEntry}
+use Rattle.row_keys.specs.declared.numbers.RetainedEntry.{RetainedEntry}
 use Rattle.row_keys.specs.declared.parts.RowParts.{RowParts}
 use Rattle.row_keys.specs.Entries.{AreInOrder, all_entries, entry_in, gone_entry}
-use Rattle.row_keys.specs.Index.{IsKeptIndex, seen, seen_all}
+use Rattle.row_keys.specs.Index.{IsRetainedIndex, seen, seen_all}
 use Rattle.row_keys.specs.Listed.{listed}
 use Rattle.row_keys.specs.Numbers.{AreDistinct, CanTurnOn, IsAt, IsUnused, Numbered, Pushes, no_row, numbered, turned}
 use Rattle.row_keys.specs.Parts.{AreNumbered, numbered_at, numbers_in, part_of, retracted_in, retracted_part}
 use Rattle.row_keys.specs.Stored.{AreGiven}
 use Rattle.row_keys.proofs.GoneRows.{unkeyed}
-use Rattle.row_keys.proofs.KeptEntries.{entries_get, entry_there, number_within}
+use Rattle.row_keys.proofs.RetainedEntries.{entries_get, entry_there, number_within}
 use Rattle.row_keys.proofs.ListedItems.{listed_add, listed_all, listed_at, listed_long, listed_same, map_listed}
 use Rattle.row_keys.proofs.Places.{some_same}
 
 -- Taking rows apart
 
 -- what is known of a number by the parts is what is seen of it
-part_seen : (keys : List Key) (ks : List KeptEntry) (n : ℕ) → seen keys gone_entry ≡ no_row
+part_seen : (keys : List Key) (ks : List RetainedEntry) (n : ℕ) → seen keys gone_entry ≡ no_row
     → numbered_at (map (part_of keys) ks) n ≡ seen keys (entry_in ks n)
 part_seen keys [] n null = sym null
 part_seen keys (k ∷ ks) n null =
@@ -36,38 +36,38 @@ part_seen keys (k ∷ ks) n null =
     by true x e is = refl
     by false x e is = is
 
-parts_order : (keys : List Key) (from len : ℕ) (ks : List KeptEntry) → AreInOrder from ks len
+parts_order : (keys : List Key) (from len : ℕ) (ks : List RetainedEntry) → AreInOrder from ks len
     → AreNumbered from (map (part_of keys) ks) len
 parts_order keys from len [] are = are
 parts_order keys from len (k ∷ ks) are = (are.0, parts_order keys (suc k.number) len ks are.1)
 
 -- the keys of all that is kept have places
-pub all_keyed : (keys : List Key) (hs : List ℕ) (ks : List KeptEntry) (len live : ℕ) → IsKeptIndex keys hs ks len live
+pub all_keyed : (keys : List Key) (hs : List ℕ) (ks : List RetainedEntry) (len live : ℕ) → IsRetainedIndex keys hs ks len live
     → All (λ k. k.entry.key < length keys) ks
 all_keyed keys hs ks len live is = go ks (λ p k there.
     let below = number_within 0 len p ks k is.order there in
     let here : entry_in ks k.number ≡ k.entry = entry_there 0 len p ks k is.order there in
     is.index.keyed k.number k.entry (entries_get ks len k.number below ∙ ap Some here))
   where
-    Keyed : KeptEntry → Type 0
+    Keyed : RetainedEntry → Type 0
     Keyed k = k.entry.key < length keys
 
-    go : (js : List KeptEntry) → ((p : ℕ) (k : KeptEntry) → slice_get js p ≡ Some k → k.entry.key < length keys)
+    go : (js : List RetainedEntry) → ((p : ℕ) (k : RetainedEntry) → slice_get js p ≡ Some k → k.entry.key < length keys)
         → All (λ k. k.entry.key < length keys) js
     go [] each = All-nil Keyed
     go (j ∷ js) each = All-cons Keyed j js (each 0 j refl) (go js (λ p k there. each (suc p) k there))
 
 pub taken_order :
-    (keys : List Key) (hs : List ℕ) (ks : List KeptEntry) (rows : List RowParts) (len live many : ℕ)
-    → IsKeptIndex keys hs ks len live → rows ≡ map (part_of keys) ks → many ≡ len → AreNumbered 0 rows many
+    (keys : List Key) (hs : List ℕ) (ks : List RetainedEntry) (rows : List RowParts) (len live many : ℕ)
+    → IsRetainedIndex keys hs ks len live → rows ≡ map (part_of keys) ks → many ≡ len → AreNumbered 0 rows many
 taken_order keys hs ks rows len live many is all long =
     let P : List RowParts → Type 0 = λ rs. AreNumbered 0 rs many in
     let Q : ℕ → Type 0 = λ m. AreNumbered 0 (map (part_of keys) ks) m in
     subst P (sym all) (subst Q (sym long) (parts_order keys 0 len ks is.order))
 
 pub taken_rows :
-    (keys : List Key) (hs : List ℕ) (ks : List KeptEntry) (rows : List RowParts) (len live many : ℕ) (xs : List Numbered)
-    → IsKeptIndex keys hs ks len live → seen_all keys (all_entries ks len) ≡ xs
+    (keys : List Key) (hs : List ℕ) (ks : List RetainedEntry) (rows : List RowParts) (len live many : ℕ) (xs : List Numbered)
+    → IsRetainedIndex keys hs ks len live → seen_all keys (all_entries ks len) ≡ xs
     → rows ≡ map (part_of keys) ks → many ≡ len → numbers_in rows many ≡ xs
 taken_rows keys hs ks rows len live many xs is view all long =
     ap (λ rs. numbers_in rs many) all ∙ ap (numbers_in (map (part_of keys) ks)) long

@@ -5,7 +5,7 @@ use Rattle.std.specs.Option.{unwrap_or}
 use Rattle.std.proofs.lemmas.List.{drop_all, drop_more}
 use Rattle.values.specs.CellViews.{shallow}
 use Rattle.values.specs.Datum.{Datum, bytes, list, null, structure, text, truth, whole}
-use Rattle.values.specs.Layouts.{slot, weight}
+use Rattle.values.specs.Layouts.{null_weight, weight}
 use Rattle.values.specs.Rose.{Rose, kids_of, node}
 use Rattle.values.specs.Weights.{saturated}
 use Rattle.values.specs.declared.layout.Layout.{Layout}
@@ -26,37 +26,37 @@ use Rattle.row_keys.specs.Batches.{cells_in}
 use Rattle.row_keys.specs.RowsLeft.{Bounds, bytes_beyond}
 use Rattle.row_keys.proofs.Weighed.{bound_saturated}
 
-null-slot : (t : Rose Layout) → weight t null ≡ slot t
-null-slot (node Booleans kids) = refl
-null-slot (node (Int w s) kids) = refl
-null-slot (node (Decimal p) kids) = refl
-null-slot (node (FixedSizeBinary w) kids) = refl
-null-slot (node (Utf8 o) kids) = refl
-null-slot (node (Binary o) kids) = refl
-null-slot (node (Listed o) kids) = refl
-null-slot (node Struct kids) = refl
+null-null_weight : (t : Rose Layout) → weight t null ≡ null_weight t
+null-null_weight (node Booleans kids) = refl
+null-null_weight (node (Int w s) kids) = refl
+null-null_weight (node (Decimal p) kids) = refl
+null-null_weight (node (FixedSizeBinary w) kids) = refl
+null-null_weight (node (Utf8 o) kids) = refl
+null-null_weight (node (Binary o) kids) = refl
+null-null_weight (node (Listed o) kids) = refl
+null-null_weight (node Struct kids) = refl
 
-truth-slot : (t : Rose Layout) (b : Bool) → weight t (truth b) ≡ slot t
-truth-slot (node Booleans kids) b = refl
-truth-slot (node (Int w s) kids) b = refl
-truth-slot (node (Decimal p) kids) b = refl
-truth-slot (node (FixedSizeBinary w) kids) b = refl
-truth-slot (node (Utf8 o) kids) b = refl
-truth-slot (node (Binary o) kids) b = refl
-truth-slot (node (Listed o) kids) b = refl
-truth-slot (node Struct kids) b = refl
+truth-null_weight : (t : Rose Layout) (b : Bool) → weight t (truth b) ≡ null_weight t
+truth-null_weight (node Booleans kids) b = refl
+truth-null_weight (node (Int w s) kids) b = refl
+truth-null_weight (node (Decimal p) kids) b = refl
+truth-null_weight (node (FixedSizeBinary w) kids) b = refl
+truth-null_weight (node (Utf8 o) kids) b = refl
+truth-null_weight (node (Binary o) kids) b = refl
+truth-null_weight (node (Listed o) kids) b = refl
+truth-null_weight (node Struct kids) b = refl
 
-whole-slot : (t : Rose Layout) (z : ℤ) → weight t (whole z) ≡ slot t
-whole-slot (node Booleans kids) z = refl
-whole-slot (node (Int w s) kids) z = refl
-whole-slot (node (Decimal p) kids) z = refl
-whole-slot (node (FixedSizeBinary w) kids) z = refl
-whole-slot (node (Utf8 o) kids) z = refl
-whole-slot (node (Binary o) kids) z = refl
-whole-slot (node (Listed o) kids) z = refl
-whole-slot (node Struct kids) z = refl
+whole-null_weight : (t : Rose Layout) (z : ℤ) → weight t (whole z) ≡ null_weight t
+whole-null_weight (node Booleans kids) z = refl
+whole-null_weight (node (Int w s) kids) z = refl
+whole-null_weight (node (Decimal p) kids) z = refl
+whole-null_weight (node (FixedSizeBinary w) kids) z = refl
+whole-null_weight (node (Utf8 o) kids) z = refl
+whole-null_weight (node (Binary o) kids) z = refl
+whole-null_weight (node (Listed o) kids) z = refl
+whole-null_weight (node Struct kids) z = refl
 
-text-beyond : (t : Rose Layout) (b : List ℕ) → weight t (text b) ≤ slot t + length b
+text-beyond : (t : Rose Layout) (b : List ℕ) → weight t (text b) ≤ null_weight t + length b
 text-beyond (node Booleans kids) b = omega arith
 text-beyond (node (Int w s) kids) b = omega arith
 text-beyond (node (Decimal p) kids) b = omega arith
@@ -66,7 +66,7 @@ text-beyond (node (Binary o) kids) b = omega arith
 text-beyond (node (Listed o) kids) b = omega arith
 text-beyond (node Struct kids) b = omega arith
 
-bytes-beyond : (t : Rose Layout) (b : List ℕ) → weight t (bytes b) ≤ slot t + length b
+bytes-beyond : (t : Rose Layout) (b : List ℕ) → weight t (bytes b) ≤ null_weight t + length b
 bytes-beyond (node Booleans kids) b = omega arith
 bytes-beyond (node (Int w s) kids) b = omega arith
 bytes-beyond (node (Decimal p) kids) b = omega arith
@@ -80,10 +80,10 @@ some-none : (n : ℕ) → Some n ≡ None → ⊥
 some-none n is = true≢false (ap is_some is)
 
 -- A value is its slot, and the bytes that it has beyond.
-flat-weight : (t : Rose Layout) (d : Datum) (n : ℕ) → Some n ≡ bytes_beyond (shallow d) → weight t d ≤ slot t + n
-flat-weight t null n is = let w = null-slot t in omega (arith, w)
-flat-weight t (truth b) n is = let w = truth-slot t b in omega (arith, w)
-flat-weight t (whole z) n is = let w = whole-slot t z in omega (arith, w)
+flat-weight : (t : Rose Layout) (d : Datum) (n : ℕ) → Some n ≡ bytes_beyond (shallow d) → weight t d ≤ null_weight t + n
+flat-weight t null n is = let w = null-null_weight t in omega (arith, w)
+flat-weight t (truth b) n is = let w = truth-null_weight t b in omega (arith, w)
+flat-weight t (whole z) n is = let w = whole-null_weight t z in omega (arith, w)
 flat-weight t (text b) n is =
     let w = text-beyond t b in
     let many = ap (λ o. unwrap_or o 0) is in
@@ -95,10 +95,10 @@ flat-weight t (bytes b) n is =
 flat-weight t (list es) n is = absurd (some-none n is)
 flat-weight t (structure es) n is = absurd (some-none n is)
 
-pub flat_bounds : (t : Rose Layout) (d : Datum) (n s w : ℕ) → Some n ≡ bytes_beyond (shallow d) → s ≡ saturated (slot t)
+pub flat_bounds : (t : Rose Layout) (d : Datum) (n s w : ℕ) → Some n ≡ bytes_beyond (shallow d) → s ≡ saturated (null_weight t)
     → w ≡ min (s + n) (2 ^ 64 - 1) → Bounds w (weight t d)
 flat_bounds t d n s w is slot_is sum = λ low.
-    let own : Bounds s (slot t) = subst (λ k. Bounds k (slot t)) (sym slot_is) (bound_saturated (slot t)) in
+    let own : Bounds s (null_weight t) = subst (λ k. Bounds k (null_weight t)) (sym slot_is) (bound_saturated (null_weight t)) in
     let part = own (omega (arith, low, sum)) in
     let whole = flat-weight t d n is in
     omega (arith, whole, part, low, sum)

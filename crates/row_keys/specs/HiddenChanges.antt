@@ -20,7 +20,7 @@ use Rattle.row_keys.specs.Slots.{
   put_hidden,
   put_shown,
   retracted,
-  taken_back,
+  reverted,
 }
 use Rattle.row_keys.specs.TableChanges.{CanGoBack, back}
 use Rattle.row_keys.specs.declared.table_change.TableChange.{TableChange}
@@ -42,7 +42,7 @@ shown (Put n replaced) slots = put_shown n replaced.items slots
 abbrev pub forgotten : TableChange → List Slot → List Slot
 forgotten (Appended n) slots = slots
 forgotten (Retracted ns) slots = slots
-forgotten (Put n replaced) slots = taken_back n slots
+forgotten (Put n replaced) slots = reverted n slots
 
 abbrev pub CanShow : Table → TableChange → List Slot → Type 0
 CanShow t (Appended n) slots = ⊥

@@ -33,7 +33,7 @@ use Rattle.values.specs.declared.key.Key.{Key}
 use Rattle.values.specs.declared.key.Key.TheVariants as key
 use Rattle.row_keys.specs.Entries.{AreInOrder, all_entries}
 use Rattle.row_keys.specs.declared.numbers.Entry.{Entry}
-use Rattle.row_keys.specs.declared.numbers.KeptEntry.{KeptEntry}
+use Rattle.row_keys.specs.declared.numbers.RetainedEntry.{RetainedEntry}
 use Rattle.row_keys.specs.Numbers.{Numbered, live_count, numbered}
 
 abbrev pub seen : List Key → Entry → Numbered
@@ -79,7 +79,7 @@ pub record IsIndex (keys : List Key) (holders : List ℕ) (entries : List Entry)
   pub after_null : (n : ℕ) (e : Entry) → slice_get entries n ≡ Some e → e.is_new ≡ true → 0 < e.key
 
 -- The same of what is kept of rows: there are no more numbers than can be counted.
-pub record IsKeptIndex (keys : List Key) (holders : List ℕ) (kept : List KeptEntry) (len live : ℕ) : Type 0 where
+pub record IsRetainedIndex (keys : List Key) (holders : List ℕ) (kept : List RetainedEntry) (len live : ℕ) : Type 0 where
   pub index : IsIndex keys holders (all_entries kept len) live
   pub order : AreInOrder 0 kept len
   pub bound : len < 2 ^ 63

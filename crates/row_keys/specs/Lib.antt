@@ -20,4 +20,4 @@ pub mod Entries
 pub mod Runs
 pub mod TableChanges
 pub mod HiddenChanges
-pub mod Places
+pub mod Locations

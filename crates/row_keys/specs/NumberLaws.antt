@@ -12,8 +12,8 @@ use Rattle.row_keys.specs.Slots.{
   AllOut,
   CanPutBack,
   CanRetract,
+  CanRevert,
   CanShowPut,
-  CanTakeBack,
   CanUndoPut,
   Slot,
   contents_of,
@@ -26,8 +26,8 @@ use Rattle.row_keys.specs.Slots.{
   put_undone,
   released,
   retracted,
+  reverted,
   row_of,
-  taken_back,
 }
 
 -- A change fits these rows, and leads to those.
@@ -93,10 +93,10 @@ NewCome =
     (numbered (with_new slots rows))
 
 -- Rows that are taken back go: they have the last numbers.
-abbrev pub TakenBackGo : Type 0
-TakenBackGo =
-    (n : ℕ) (slots : List Slot) → CanTakeBack n slots
-    → Leads (numbered slots) (gone slots (range_with_len (length slots - n) n)) (numbered (taken_back n slots))
+abbrev pub RevertedGo : Type 0
+RevertedGo =
+    (n : ℕ) (slots : List Slot) → CanRevert n slots
+    → Leads (numbered slots) (gone slots (range_with_len (length slots - n) n)) (numbered (reverted n slots))
 
 -- Rows that can be retracted are no more than the live ones,
 abbrev pub FewRetracted : Type 0

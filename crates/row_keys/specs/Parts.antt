@@ -21,7 +21,7 @@ use Rattle.row_keys.specs.Listed.{listed}
 use Rattle.row_keys.specs.Numbers.{AreDistinct, Numbered, no_row, numbered}
 use Rattle.row_keys.specs.Store.{Store}
 use Rattle.row_keys.specs.Stored.{IsStored, joined}
-use Rattle.row_keys.specs.declared.numbers.KeptEntry.{KeptEntry}
+use Rattle.row_keys.specs.declared.numbers.RetainedEntry.{RetainedEntry}
 use Rattle.row_keys.specs.declared.parts.RowParts.{RowParts}
 use Rattle.row_keys.specs.declared.parts.StoreParts.{StoreParts}
 
@@ -47,7 +47,7 @@ abbrev pub retracted_in : List RowParts → ℕ → List Numbered
 retracted_in rows len = numbers_in (map retracted_part rows) len
 
 -- what an entry keeps of a row
-abbrev pub part_of : List Key → KeptEntry → RowParts
+abbrev pub part_of : List Key → RetainedEntry → RowParts
 part_of keys k = record {
   number = k.number;
   key = get_or keys k.entry.key key.Null;

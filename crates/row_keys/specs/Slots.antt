@@ -102,16 +102,16 @@ unfoldable pub CanPutBack : Table → List ℕ → List Slot → Type 0
 CanPutBack t ns slots = AreRetracted t ns slots × (length (live (put_back ns slots)) ≤ t.max_rows)
 
 -- there are n rows that can be removed
-unfoldable pub CanTakeBack : ℕ → List Slot → Type 0
-CanTakeBack n slots = n ≤ length slots
+unfoldable pub CanRevert : ℕ → List Slot → Type 0
+CanRevert n slots = n ≤ length slots
 
 -- the rows without the last n
-unfoldable pub taken_back : ℕ → List Slot → List Slot
-taken_back n slots = take (length slots - n) slots
+unfoldable pub reverted : ℕ → List Slot → List Slot
+reverted n slots = take (length slots - n) slots
 
 -- Rows that were put go away again, and the rows come back that they replaced.
 abbrev pub put_undone : ℕ → List ℕ → List Slot → List Slot
-put_undone n replaced slots = put_back replaced (taken_back n slots)
+put_undone n replaced slots = put_back replaced (reverted n slots)
 
 -- the numbers of the last n rows
 abbrev pub last_numbers : ℕ → List Slot → List ℕ
@@ -120,7 +120,7 @@ last_numbers n slots = range_with_len (length slots - n) n
 -- The last n rows are live and can go, and then the rows that they replaced can come back.
 abbrev pub CanUndoPut : Table → ℕ → List ℕ → List Slot → Type 0
 CanUndoPut t n replaced slots =
-    CanTakeBack n slots × CanPutBack t replaced (taken_back n slots) × CanRetract (last_numbers n slots) slots
+    CanRevert n slots × CanPutBack t replaced (reverted n slots) × CanRetract (last_numbers n slots) slots
 
 -- Rows that were put are retracted, and the rows come back that they replaced. No number is given free.
 abbrev pub put_hidden : ℕ → List ℕ → List Slot → List Slot
@@ -133,7 +133,7 @@ put_shown n replaced slots = put_back (last_numbers n slots) (retracted replaced
 -- The rows that they replaced can be retracted, and then the last n rows can be put back.
 abbrev pub CanShowPut : Table → ℕ → List ℕ → List Slot → Type 0
 CanShowPut t n replaced slots =
-    CanTakeBack n slots × CanRetract replaced slots × CanPutBack t (last_numbers n slots) (retracted replaced slots)
+    CanRevert n slots × CanRetract replaced slots × CanPutBack t (last_numbers n slots) (retracted replaced slots)
 
 -- the slots when the row of that number is gone: of it no more is known than that it had a number
 abbrev pub emptied : List Slot → ℕ → List Slot

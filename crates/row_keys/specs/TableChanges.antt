@@ -11,13 +11,13 @@ use Rattle.view_lang.specs.declared.config.Role.{Role}
 use Rattle.row_keys.specs.Batches.{AreAlike, batch_rows, layouts_in}
 use Rattle.row_keys.specs.Slots.{
   CanPutBack,
-  CanTakeBack,
+  CanRevert,
   CanUndoPut,
   Slot,
   contents_of,
   put_back,
   put_undone,
-  taken_back,
+  reverted,
 }
 use Rattle.row_keys.specs.Store.{Refuses}
 use Rattle.row_keys.specs.declared.faults.EditFault.{EditFault}
@@ -26,7 +26,7 @@ use Rattle.row_keys.specs.declared.table_change.TableChange.TheVariants.{Appende
 
 -- a table's rows once a change of it is taken back
 abbrev pub back : TableChange → List Slot → List Slot
-back (Appended n) slots = taken_back n slots
+back (Appended n) slots = reverted n slots
 back (Retracted ns) slots = put_back ns.items slots
 back (Put n replaced) slots = put_undone n replaced.items slots
 
@@ -38,7 +38,7 @@ restores (Put n replaced) = replaced.items
 
 -- A change of a table's rows can be taken back.
 abbrev pub CanGoBack : Table → TableChange → List Slot → Type 0
-CanGoBack t (Appended n) slots = CanTakeBack n slots
+CanGoBack t (Appended n) slots = CanRevert n slots
 CanGoBack t (Retracted ns) slots = CanPutBack t ns.items slots
 CanGoBack t (Put n replaced) slots = CanUndoPut t n replaced.items slots
 

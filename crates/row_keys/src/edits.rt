@@ -101,7 +101,7 @@ impl RowStore {
         ensures { self.new ≡ with_slots self.old (back change.now self.old.slots) }
     {
         match change {
-            TableChange::Appended(count) => self.take_back(*count),
+            TableChange::Appended(count) => self.revert(*count),
             TableChange::Retracted(numbers) => self.put_back(numbers),
             TableChange::Put { rows, replaced } => self.undo_put(*rows, replaced),
         }

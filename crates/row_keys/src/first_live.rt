@@ -14,12 +14,12 @@ impl RowStore {
         ensures { IfOk result (λ numbers. numbers.items ≡ take most (keys_of (numbered self.now.slots))) }
     {
         let mut numbers = Vec::with_capacity(alloc, most.min(self.len()))?;
-        let mut number = self.next_kept(0);
+        let mut number = self.next_retained(0);
         while number < self.appended() && numbers.len() < most {
             if self.is_live(number) {
                 numbers.push(number)?;
             }
-            number = self.next_kept(number + 1);
+            number = self.next_retained(number + 1);
         }
         Ok(numbers)
     }

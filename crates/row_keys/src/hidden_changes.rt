@@ -82,7 +82,7 @@ impl RowStore {
         match change {
             TableChange::Appended(_) => unreachable!(),
             TableChange::Retracted(_) => {}
-            TableChange::Put { rows, .. } => self.take_back(*rows),
+            TableChange::Put { rows, .. } => self.revert(*rows),
         }
     }
 

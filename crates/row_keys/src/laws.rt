@@ -16,10 +16,10 @@ ghost use Rattle.row_keys.specs.NumberLaws.{
   RetractedComeBack,
   RetractedGo,
   RetractedWereLive,
+  RevertedGo,
   RowsAreAtNumbers,
   RowsAreLive,
   ShownPutComes,
-  TakenBackGo,
 };
 
 /// The keys of a batch with one column are its cells.
@@ -38,7 +38,7 @@ pub fn numbers_law()
     ensures come_back { RetractedComeBack }
     ensures put_back { PutBackCome }
     ensures appended { NewCome }
-    ensures taken_back { TakenBackGo }
+    ensures reverted { RevertedGo }
     ensures all { AllCome }
     ensures add { ChangesAdd }
     ensures few_retracted { FewRetracted }

@@ -31,7 +31,7 @@ ghost use Rattle.std.specs.Prelude.{
 ghost use Rattle.std.specs.List.Sorted.{IsPartitionPoint};
 ghost use Rattle.std.specs.Vec.{vec_capacity, vec_len};
 ghost use Rattle.values.specs.declared.key.Key.{Key};
-ghost use Rattle.row_keys.specs.Entries.{AreInOrder, Changes, EndsAt, IsKeptAt};
+ghost use Rattle.row_keys.specs.Entries.{AreInOrder, Changes, EndsAt, IsRetainedAt};
 ghost use Rattle.row_keys.specs.Entries.{all_entries, entry_in, gone_entry, is_kept};
 ghost use Rattle.row_keys.specs.Index.{HoldsPlace, IsFree, Puts, StartsWithNull, flagged};
 ghost use Rattle.row_keys.specs.Numbers.{
@@ -64,7 +64,7 @@ struct Entry {
 
 /// The number of a row, and what is kept of it.
 #[derive(Clone, Copy, Debug)]
-struct KeptEntry {
+struct RetainedEntry {
     number: usize,
     entry: Entry,
 }
@@ -92,7 +92,7 @@ pub(crate) struct Numbers {
     // For each key the number of the row that was added last with it.
     holders: Vec<usize>,
     // By number. Of a row that isn't among them nothing is kept: it is gone.
-    kept: Vec<KeptEntry>,
+    kept: Vec<RetainedEntry>,
     len: usize,
     live: usize,
     // How many of those that are kept are gone.
@@ -102,7 +102,7 @@ pub(crate) struct Numbers {
 impl Model for Numbers {
     ghost use Rattle.std.specs.Prelude.{List};
     ghost use Rattle.row_keys.specs.Entries.{all_entries};
-    ghost use Rattle.row_keys.specs.Index.{IsKeptIndex, seen_all};
+    ghost use Rattle.row_keys.specs.Index.{IsRetainedIndex, seen_all};
     ghost use Rattle.row_keys.specs.Numbers.{Numbered, numbers_code};
 
     ghost Value = { List Numbered };
@@ -111,26 +111,26 @@ impl Model for Numbers {
 
     ghost view = { λ s. seen_all s.keys (all_entries s.kept.items s.len) };
 
-    ghost invariant = { λ s. IsKeptIndex s.keys s.holders.items s.kept.items s.len s.live };
+    ghost invariant = { λ s. IsRetainedIndex s.keys s.holders.items s.kept.items s.len s.live };
 }
 
 /// How many of these have smaller numbers.
-fn count_below(kept: &[KeptEntry], number: usize) -> usize
+fn count_below(kept: &[RetainedEntry], number: usize) -> usize
     requires { (len : ℕ) × AreInOrder 0 kept.now len }
     ensures { IsPartitionPoint (λ k. nat_lt k.number number ≡ true) (λ k. nat_lt k.number number ≡ false) kept.now
         result }
 {
     kept.partition_point(
-        |one: &KeptEntry| -> bool
+        |one: &RetainedEntry| -> bool
             ensures { result ≡ nat_lt one.now.number number }
         { one.number < number },
     )
 }
 
 /// Whether what is kept at a place is of this number.
-fn is_at(kept: &[KeptEntry], place: usize, number: usize) -> bool
-    ensures yes { result ≡ true → IsKeptAt kept.now number place }
-    ensures no { result ≡ false → IsKeptAt kept.now number place → ⊥ }
+fn is_at(kept: &[RetainedEntry], place: usize, number: usize) -> bool
+    ensures yes { result ≡ true → IsRetainedAt kept.now number place }
+    ensures no { result ≡ false → IsRetainedAt kept.now number place → ⊥ }
 {
     match kept.get(place) {
         Some(one) => one.number == number,
@@ -139,9 +139,9 @@ fn is_at(kept: &[KeptEntry], place: usize, number: usize) -> bool
 }
 
 /// The place of the entry of this number, if it is kept.
-fn place_of(kept: &[KeptEntry], number: usize) -> Option<usize>
+fn place_of(kept: &[RetainedEntry], number: usize) -> Option<usize>
     requires { (len : ℕ) × AreInOrder 0 kept.now len }
-    ensures { MatchOption result (entry_in kept.now number ≡ gone_entry) (IsKeptAt kept.now number) }
+    ensures { MatchOption result (entry_in kept.now number ≡ gone_entry) (IsRetainedAt kept.now number) }
 {
     // Where none is gone, its place is the number itself.
     if is_at(kept, number, number) {
@@ -156,7 +156,7 @@ fn place_of(kept: &[KeptEntry], number: usize) -> Option<usize>
 }
 
 /// The least number from this one on that has an entry; `len` where there is none.
-fn next_kept(kept: &[KeptEntry], number: usize, len: usize) -> usize
+fn next_retained(kept: &[RetainedEntry], number: usize, len: usize) -> usize
     requires order { AreInOrder 0 kept.now len }
     requires inside { number ≤ len }
     ensures from { number ≤ result }
@@ -174,7 +174,7 @@ fn next_kept(kept: &[KeptEntry], number: usize, len: usize) -> usize
 }
 
 /// The entry of this number.
-fn entry_at(kept: &[KeptEntry], number: usize) -> Entry
+fn entry_at(kept: &[RetainedEntry], number: usize) -> Entry
     requires { (len : ℕ) × AreInOrder 0 kept.now len }
     ensures { result ≡ entry_in kept.now number }
 {
@@ -185,7 +185,7 @@ fn entry_at(kept: &[KeptEntry], number: usize) -> Entry
 }
 
 /// The number of the live row with the key at this place, if any.
-fn holder(holders: &[usize], kept: &[KeptEntry], place: usize) -> Option<usize>
+fn holder(holders: &[usize], kept: &[RetainedEntry], place: usize) -> Option<usize>
     requires { (len : ℕ) × AreInOrder 0 kept.now len }
     ensures { (len : ℕ) → AreInOrder 0 kept.now len
         → MatchOption result (IsFree holders.now (all_entries kept.now len) place)
@@ -215,17 +215,17 @@ fn hold(holders: &mut Vec<usize>, place: usize, number: usize)
 }
 
 /// Puts another entry in the place of that of a number which is kept.
-fn set_entry(kept: &mut Vec<KeptEntry>, place: usize, entry: Entry)
+fn set_entry(kept: &mut Vec<RetainedEntry>, place: usize, entry: Entry)
     requires { place < length kept.old.items }
-    ensures { (number : ℕ) → IsKeptAt kept.old.items number place
+    ensures { (number : ℕ) → IsRetainedAt kept.old.items number place
         → Changes kept.old.items number entry kept.new.items }
 {
     let number = kept[place].number;
-    kept[place] = KeptEntry { number, entry };
+    kept[place] = RetainedEntry { number, entry };
 }
 
 /// Makes the row of this number live, or retracted.
-fn set_live(kept: &mut Vec<KeptEntry>, number: usize, is_live: bool)
+fn set_live(kept: &mut Vec<RetainedEntry>, number: usize, is_live: bool)
     requires order { (len : ℕ) × AreInOrder 0 kept.old.items len }
     requires kept { (entry_in kept.old.items number ≡ gone_entry) → is_live ≡ false }
     ensures order { (len : ℕ) → AreInOrder 0 kept.old.items len → AreInOrder 0 kept.new.items len }
@@ -242,7 +242,7 @@ fn set_live(kept: &mut Vec<KeptEntry>, number: usize, is_live: bool)
 }
 
 /// Forgets what is kept of the row of this number. It returns whether anything was.
-fn forget(kept: &mut Vec<KeptEntry>, number: usize) -> bool
+fn forget(kept: &mut Vec<RetainedEntry>, number: usize) -> bool
     requires order { (len : ℕ) × AreInOrder 0 kept.old.items len }
     ensures order { (len : ℕ) → AreInOrder 0 kept.old.items len → AreInOrder 0 kept.new.items len }
     ensures gone { (len : ℕ) → AreInOrder 0 kept.old.items len
@@ -258,7 +258,7 @@ fn forget(kept: &mut Vec<KeptEntry>, number: usize) -> bool
 }
 
 /// Whether the last entry is of this number.
-fn ends_at(kept: &[KeptEntry], number: usize) -> bool
+fn ends_at(kept: &[RetainedEntry], number: usize) -> bool
     ensures { EndsAt kept.now number result }
 {
     match kept.last() {
@@ -268,7 +268,7 @@ fn ends_at(kept: &[KeptEntry], number: usize) -> bool
 }
 
 /// Removes the entry of number `last`, above which there is none, if it is kept, and returns it.
-fn pop_entry(kept: &mut Vec<KeptEntry>, last: usize) -> Entry
+fn pop_entry(kept: &mut Vec<RetainedEntry>, last: usize) -> Entry
     requires { AreInOrder 0 kept.old.items (last + 1) }
     ensures order { AreInOrder 0 kept.new.items last }
     ensures entries { all_entries kept.old.items (last + 1) ≡ all_entries kept.new.items last ++ result ∷ [] }
@@ -310,18 +310,18 @@ fn one_more(len: usize) -> Result<usize, AllocError>
 }
 
 /// Removes the entries of rows that are gone.
-fn sweep(kept: &mut Vec<KeptEntry>)
+fn sweep(kept: &mut Vec<RetainedEntry>)
     ensures { kept.new.items ≡ filter is_kept kept.old.items }
 {
     kept.retain(
-        |one: &KeptEntry| -> bool
+        |one: &RetainedEntry| -> bool
             ensures { result ≡ is_kept one.now }
         { one.entry.key > 0 || one.entry.is_live || one.entry.is_new },
     );
 }
 
 /// What is kept of a row.
-fn row_of(alloc: Global, keys: &KeyTable, one: &KeptEntry) -> Result<RowParts, AllocError>
+fn row_of(alloc: Global, keys: &KeyTable, one: &RetainedEntry) -> Result<RowParts, AllocError>
     requires { one.now.entry.key < length keys.now }
     ensures { IfOk result (λ row. row ≡ part_of keys.now one.now) }
 {
@@ -333,7 +333,11 @@ fn row_of(alloc: Global, keys: &KeyTable, one: &KeptEntry) -> Result<RowParts, A
 }
 
 /// What is kept of all rows.
-fn rows_of(alloc: Global, keys: &KeyTable, kept: &[KeptEntry]) -> Result<Vec<RowParts>, AllocError>
+fn rows_of(
+    alloc: Global,
+    keys: &KeyTable,
+    kept: &[RetainedEntry],
+) -> Result<Vec<RowParts>, AllocError>
     requires { All (λ k. k.entry.key < length keys.now) kept.now }
     ensures { IfOk result (λ rows. rows.items ≡ map (part_of keys.now) kept.now) }
 {
@@ -382,14 +386,14 @@ impl Numbers {
 
     /// The least number from this one on of which something is kept; the number of rows where there is none. Those
     /// before it aren't live.
-    pub(crate) fn next_kept(&self, number: usize) -> usize
+    pub(crate) fn next_retained(&self, number: usize) -> usize
         requires { number ≤ length self.now }
         ensures from { number ≤ result }
         ensures within { result ≤ length self.now }
         ensures dead { (k : ℕ) → number ≤ k → k < result → (get_or self.now k no_row).live ≡ false }
     {
         let _keys = &self.keys;
-        next_kept(&self.kept, number, self.len)
+        next_retained(&self.kept, number, self.len)
     }
 
     /// Whether a row is live.
@@ -411,7 +415,7 @@ impl Numbers {
     }
 
     /// What is kept of the rows, by their numbers.
-    pub(crate) fn kept_rows(&self, alloc: Global) -> Result<Vec<RowParts>, AllocError>
+    pub(crate) fn retained_rows(&self, alloc: Global) -> Result<Vec<RowParts>, AllocError>
         ensures order { IfOk result (λ rows. AreNumbered 0 rows.items (length self.now)) }
         ensures rows { IfOk result (λ rows. numbers_in rows.items (length self.now) ≡ self.now) }
     {
@@ -476,7 +480,7 @@ impl Numbers {
             is_new,
         };
         self.kept
-            .push(KeptEntry {
+            .push(RetainedEntry {
                 number: self.len,
                 entry,
             })
@@ -499,7 +503,7 @@ impl Numbers {
             is_live: true,
             is_new: false,
         };
-        self.kept.push(KeptEntry {
+        self.kept.push(RetainedEntry {
             number: self.len,
             entry,
         })?;

@@ -88,6 +88,6 @@ pub(crate) fn renumbered(alloc: Global, numbers: &Numbers) -> Result<Numbers, Al
     ensures { IfOk result (λ made. made ≡ numbers.now) }
 {
     numbers.distinct_law();
-    let rows = numbers.kept_rows(alloc)?;
+    let rows = numbers.retained_rows(alloc)?;
     make_numbers(alloc, &rows, numbers.len())
 }

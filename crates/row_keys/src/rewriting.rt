@@ -49,7 +49,7 @@ ghost use Rattle.row_keys.specs.RowsLeft.{
 };
 
 use crate::stored_chunk::{StoredChunk, flags};
-use crate::weighing::weigh_row;
+use crate::weighing::{weigh_nested_columns, weigh_row};
 use arrays::Column;
 use body_writer::{Batch, RowRange};
 use column_merge::merge_rows;
@@ -211,6 +211,17 @@ fn are_wide(part: &[StoredChunk], columns: usize) -> bool
     true
 }
 
+/// What the lists and structs of rows weigh where they lie.
+fn weigh_nested(ranges: &[RowRange]) -> u64
+    requires { (n : ℕ) × All (IsRange n) ranges.now }
+{
+    let mut sum = 0u64;
+    for range in ranges {
+        sum = sum.saturating_add(weigh_nested_columns(range));
+    }
+    sum
+}
+
 /// A bound on the weight of some rows.
 fn weigh_range(alloc: Global, layouts: &[LayoutTree], range: &RowRange) -> Result<u64, AllocError>
     requires { (n : ℕ) × IsRange n range.now }
@@ -328,7 +339,8 @@ fn most_for(batch: &Batch, rows: usize) -> u64
     sum.min(MAX_BATCH_WEIGHT)
 }
 
-/// Whether the rows are few enough to be written as one batch, and weigh no more than `most`.
+/// Whether the rows are few enough to be written as one batch, and weigh no more than `most`. Lists and structs that
+/// weigh more where they lie aren't copied for it.
 fn are_few(
     alloc: Global,
     layouts: &[LayoutTree],
@@ -341,7 +353,7 @@ fn are_few(
     ensures light { IfOk result (λ fits. fits ≡ true
         → rows_weight (kids_of layouts.now) (ranges_rows left.now.ranges.items) ≤ max_batch_weight) }
 {
-    if left.numbers.len() > MAX_BATCH_ROWS {
+    if left.numbers.len() > MAX_BATCH_ROWS || weigh_nested(&left.ranges) > most {
         return Ok(false);
     }
     let weight = weigh(alloc, layouts, &left.ranges)?;

@@ -26,7 +26,7 @@ ghost use Rattle.values.specs.CellViews.{shallow, viewed};
 ghost use Rattle.values.specs.Datum.{Datum};
 ghost use Rattle.values.specs.Keys.{datum_of_key};
 ghost use Rattle.values.specs.Limits.{max_main_rows};
-ghost use Rattle.body_writer.specs.Places.{IsPlaced, IsRowAt, placed_rows};
+ghost use Rattle.body_writer.specs.Locations.{IsLocated, IsRowAt, located_rows};
 ghost use Rattle.body_writer.specs.RowRanges.{IsRange, ranges_rows};
 ghost use Rattle.view_lang.specs.Causes.{cause_of};
 ghost use Rattle.view_lang.specs.Contents.{applied, key_in, keys_in, without};
@@ -38,12 +38,12 @@ ghost use Rattle.view_lang.specs.TableRules.{IsSideTable, IsTable};
 ghost use Rattle.row_keys.specs.Batches.{AreKeys, IsBatch, batch_rows};
 ghost use Rattle.row_keys.specs.Numbered.{numbered};
 ghost use Rattle.row_keys.specs.Parts.{AreStoreParts, store_with};
-ghost use Rattle.row_keys.specs.Places.{row_if};
+ghost use Rattle.row_keys.specs.Locations.{row_if};
 ghost use Rattle.row_keys.specs.Slots.{
   CanPutBack,
   CanRetract,
   CanShowPut,
-  CanTakeBack,
+  CanRevert,
   CanUndoPut,
   AllOut,
   HasKey,
@@ -62,7 +62,7 @@ ghost use Rattle.row_keys.specs.Slots.{
   released,
   retracted,
   row_of,
-  taken_back,
+  reverted,
   contents_of,
 };
 ghost use Rattle.row_keys.specs.Store.{
@@ -83,9 +83,9 @@ use crate::key_columns::{
     check_keys, find_distinct, find_keys, push_batch, put_batch, take_back_put,
 };
 use crate::layouts::table_layouts;
+use crate::locating::StoredLocations;
 use crate::numbers::Numbers;
 use crate::parts::{StoreParts, make_numbers, renumbered};
-use crate::placing::StoredPlaces;
 use crate::stored_row::{StoredRow, Visit, Visits};
 use crate::stored_rows::StoredRows;
 use crate::turning::{retract_all, retract_from, revive_all, revive_from};
@@ -154,7 +154,7 @@ impl RowStore {
             visits,
         } = self;
         numbers.distinct_law();
-        let kept = numbers.kept_rows(alloc)?;
+        let kept = numbers.retained_rows(alloc)?;
         Ok(StoreParts {
             table,
             chunks: rows.into_chunks(),
@@ -244,8 +244,8 @@ impl RowStore {
             (cause_of self.old.table (contents_of self.old.slots) (append (batch_rows rows columns.items)) ≡ None) }
         ensures refused { IfErr result
             (Refuses (cause_of self.old.table (contents_of self.old.slots) (append (batch_rows rows columns.items)))) }
-        ensures can_go_back { OnOk result (CanTakeBack rows self.new.slots) }
-        ensures back { OnOk result (taken_back rows self.new.slots ≡ self.old.slots) }
+        ensures can_go_back { OnOk result (CanRevert rows self.new.slots) }
+        ensures back { OnOk result (reverted rows self.new.slots ≡ self.old.slots) }
         ensures slots { OnOk result
             (self.new.slots ≡ self.old.slots ++ map new_slot (batch_rows rows columns.items)) }
         ensures rest { self.new ≡ with_slots self.old self.new.slots }
@@ -278,8 +278,8 @@ impl RowStore {
             (cause_of self.old.table (contents_of self.old.slots) (append (batch_rows rows columns.items)) ≡ None) }
         ensures refused { IfErr result
             (Refuses (cause_of self.old.table (contents_of self.old.slots) (append (batch_rows rows columns.items)))) }
-        ensures can_go_back { OnOk result (CanTakeBack rows self.new.slots) }
-        ensures back { OnOk result (taken_back rows self.new.slots ≡ self.old.slots) }
+        ensures can_go_back { OnOk result (CanRevert rows self.new.slots) }
+        ensures back { OnOk result (reverted rows self.new.slots ≡ self.old.slots) }
         ensures slots { OnOk result
             (self.new.slots ≡ self.old.slots ++ map new_slot (batch_rows rows columns.items)) }
         ensures rest { self.new ≡ with_slots self.old self.new.slots }
@@ -291,9 +291,9 @@ impl RowStore {
     }
 
     /// Removes the last `count` rows, as an append is undone, and frees their numbers. It takes no memory.
-    pub fn take_back(&mut self, count: usize)
-        requires { CanTakeBack count self.old.slots }
-        ensures { self.new ≡ with_slots self.old (taken_back count self.old.slots) }
+    pub fn revert(&mut self, count: usize)
+        requires { CanRevert count self.old.slots }
+        ensures { self.new ≡ with_slots self.old (reverted count self.old.slots) }
     {
         let left = self.numbers.len() - count;
         self.rows.truncate(left);
@@ -481,7 +481,7 @@ impl RowStore {
         requires { CanUndoPut self.old.table rows replaced.now self.old.slots }
         ensures { self.new ≡ with_slots self.old (put_undone rows replaced.now self.old.slots) }
     {
-        self.take_back(rows);
+        self.revert(rows);
         self.put_back(replaced);
     }
 
@@ -493,8 +493,8 @@ impl RowStore {
         ensures live { live self.new.slots ≡ live (put_undone rows replaced.now self.old.slots) }
         ensures can_show { CanShowPut self.old.table rows replaced.now self.new.slots }
         ensures shown { put_shown rows replaced.now self.new.slots ≡ self.old.slots }
-        ensures can_take { CanTakeBack rows self.new.slots }
-        ensures taken { taken_back rows self.new.slots ≡ put_undone rows replaced.now self.old.slots }
+        ensures can_take { CanRevert rows self.new.slots }
+        ensures taken { reverted rows self.new.slots ≡ put_undone rows replaced.now self.old.slots }
     {
         self.retract_last(rows);
         self.put_back(replaced);
@@ -512,7 +512,7 @@ impl RowStore {
 
     /// Retracts the last `count` rows. It takes no memory.
     fn retract_last(&mut self, count: usize)
-        requires few { CanTakeBack count self.old.slots }
+        requires few { CanRevert count self.old.slots }
         requires live { CanRetract (last_numbers count self.old.slots) self.old.slots }
         ensures slots { self.new ≡ with_slots self.old (retracted (last_numbers count self.old.slots) self.old.slots) }
         ensures can_go_back { CanPutBack self.old.table (last_numbers count self.old.slots) self.new.slots }
@@ -525,7 +525,7 @@ impl RowStore {
 
     /// Makes the last `count` rows live again. It takes no memory.
     fn put_back_last(&mut self, count: usize)
-        requires few { CanTakeBack count self.old.slots }
+        requires few { CanRevert count self.old.slots }
         requires retracted { CanPutBack self.old.table (last_numbers count self.old.slots) self.old.slots }
         ensures { self.new ≡ with_slots self.old (put_back (last_numbers count self.old.slots) self.old.slots) }
     {
@@ -605,29 +605,29 @@ impl RowStore {
     }
 
     /// Where the visited rows lie, which are live: each by itself. Each lies in as many columns as the table has.
-    pub fn places(&self, visits: Visits) -> Result<StoredPlaces<'_>, AllocError>
+    pub fn locations(&self, visits: Visits) -> Result<StoredLocations<'_>, AllocError>
         requires { All (IsLiveAt self.now.slots) visits }
         ensures rows { IfOk result (λ found.
-            placed_rows found.batches.items found.places.items ≡ map (row_of self.now.slots) visits) }
+            located_rows found.batches.items found.locations.items ≡ map (row_of self.now.slots) visits) }
         ensures placed { IfOk result (λ found.
-            All (IsRowAt (length self.now.table.columns) found.batches.items) found.places.items) }
+            All (IsRowAt (length self.now.table.columns) found.batches.items) found.locations.items) }
     {
         let _table = &self.table;
-        self.rows.places(self.alloc, visits.numbers())
+        self.rows.locations(self.alloc, visits.numbers())
     }
 
     /// Where the rows of a side table of these numbers lie, which are live: each by itself. Where there is no number, the
     /// place is in no batch. Visits count the rows of the main table that are opened, and no others.
-    pub fn places_if(&self, numbers: &[Option<usize>]) -> Result<StoredPlaces<'_>, AllocError>
+    pub fn locations_if(&self, numbers: &[Option<usize>]) -> Result<StoredLocations<'_>, AllocError>
         requires side { IsSideTable self.now.table }
         requires live { All (λ o. IfSome o (IsLiveAt self.now.slots)) numbers.now }
         ensures rows { IfOk result (λ found.
-            placed_rows found.batches.items found.places.items ≡ map (row_if (row_of self.now.slots)) numbers.now) }
+            located_rows found.batches.items found.locations.items ≡ map (row_if (row_of self.now.slots)) numbers.now) }
         ensures placed { IfOk result (λ found.
-            All (IsPlaced (length self.now.table.columns) found.batches.items) found.places.items) }
+            All (IsLocated (length self.now.table.columns) found.batches.items) found.locations.items) }
     {
         let _table = &self.table;
-        self.rows.places_if(self.alloc, numbers)
+        self.rows.locations_if(self.alloc, numbers)
     }
 
     /// A copy of the row of this number, live or retracted; one that is gone has no cells. It is counted as a visit.
@@ -751,12 +751,12 @@ impl RowStore {
         ensures few { length (live_in self.now) ≤ max_main_rows }
     {
         let mut numbers = Vec::with_capacity(self.alloc, self.len())?;
-        let mut number = self.next_kept(0);
+        let mut number = self.next_retained(0);
         while number < self.appended() {
             if self.is_live(number) {
                 numbers.push(number)?;
             }
-            number = self.next_kept(number + 1);
+            number = self.next_retained(number + 1);
         }
         Ok(numbers)
     }
@@ -771,14 +771,14 @@ impl RowStore {
 
     /// The least number from this one on of which something is kept; the number of rows where there is none. The rows
     /// before it aren't live.
-    pub(crate) fn next_kept(&self, number: usize) -> usize
+    pub(crate) fn next_retained(&self, number: usize) -> usize
         requires { number ≤ length self.now.slots }
         ensures from { number ≤ result }
         ensures within { result ≤ length self.now.slots }
         ensures dead { (k : ℕ) → number ≤ k → k < result → (get_or self.now.slots k no_slot).live ≡ false }
     {
         let _table = &self.table;
-        self.numbers.next_kept(number)
+        self.numbers.next_retained(number)
     }
 
     /// Whether the row of this number is live.

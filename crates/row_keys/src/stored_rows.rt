@@ -29,7 +29,7 @@ ghost use Rattle.std.specs.List.Sorted.{IsPartitionPoint};
 ghost use Rattle.values.specs.Layouts.{AreLayouts};
 ghost use Rattle.values.specs.Limits.{max_fields};
 ghost use Rattle.values.specs.Rose.{kids_of, roses_size};
-ghost use Rattle.body_writer.specs.Places.{IsPlaced, IsRowAt, placed_rows};
+ghost use Rattle.body_writer.specs.Locations.{IsLocated, IsRowAt, located_rows};
 ghost use Rattle.body_writer.specs.RowRanges.{IsRange, ranges_rows};
 ghost use Rattle.row_keys.specs.Batches.{batch_rows};
 ghost use Rattle.row_keys.specs.Chunks.{
@@ -45,10 +45,10 @@ ghost use Rattle.row_keys.specs.Chunks.{
   row_in,
   stored_rows,
 };
-ghost use Rattle.row_keys.specs.Places.{row_if};
+ghost use Rattle.row_keys.specs.Locations.{row_if};
 ghost use Rattle.row_keys.specs.RowsLeft.{IsHeld, IsSplit};
 
-use crate::placing::{StoredPlaces, place_rows, place_rows_if};
+use crate::locating::{StoredLocations, locate_rows, locate_rows_if};
 use crate::rewriting::{merge, write_tail};
 use crate::runs::find_ranges;
 use crate::stored_chunk::{StoredChunk, flags, index_of, release_in, row_of, shorten};
@@ -586,37 +586,37 @@ impl StoredRows {
     }
 
     /// Where the rows of these numbers lie, which are kept: each by itself.
-    pub(crate) fn places(
+    pub(crate) fn locations(
         &self,
         alloc: Global,
         numbers: &[usize],
-    ) -> Result<StoredPlaces<'_>, AllocError>
+    ) -> Result<StoredLocations<'_>, AllocError>
         requires { All (λ n. 0 < length (get_or self.now n [])) numbers.now }
         ensures rows { IfOk result (λ found.
-            placed_rows found.batches.items found.places.items ≡ map (λ n. get_or self.now n []) numbers.now) }
+            located_rows found.batches.items found.locations.items ≡ map (λ n. get_or self.now n []) numbers.now) }
         ensures placed { IfOk result (λ found. (w : ℕ)
             → All (λ n. length (get_or self.now n []) ≡ w) numbers.now
-            → All (IsRowAt w found.batches.items) found.places.items) }
+            → All (IsRowAt w found.batches.items) found.locations.items) }
     {
         let _len = self.len;
-        place_rows(alloc, &self.chunks, numbers)
+        locate_rows(alloc, &self.chunks, numbers)
     }
 
     /// Where the rows of these numbers lie, which are kept: each by itself. Where there is no number, the place is in
     /// no batch.
-    pub(crate) fn places_if(
+    pub(crate) fn locations_if(
         &self,
         alloc: Global,
         numbers: &[Option<usize>],
-    ) -> Result<StoredPlaces<'_>, AllocError>
+    ) -> Result<StoredLocations<'_>, AllocError>
         requires { All (λ o. IfSome o (λ n. 0 < length (get_or self.now n []))) numbers.now }
-        ensures rows { IfOk result (λ found. placed_rows found.batches.items found.places.items
+        ensures rows { IfOk result (λ found. located_rows found.batches.items found.locations.items
             ≡ map (row_if (λ n. get_or self.now n [])) numbers.now) }
         ensures placed { IfOk result (λ found. (w : ℕ)
             → All (λ o. IfSome o (λ n. length (get_or self.now n []) ≡ w)) numbers.now
-            → All (IsPlaced w found.batches.items) found.places.items) }
+            → All (IsLocated w found.batches.items) found.locations.items) }
     {
         let _len = self.len;
-        place_rows_if(alloc, &self.chunks, numbers)
+        locate_rows_if(alloc, &self.chunks, numbers)
     }
 }

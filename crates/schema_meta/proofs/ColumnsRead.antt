@@ -4,7 +4,7 @@ use Rattle.std.specs.Prelude.{nat_le}
 use Rattle.std.proofs.lemmas.Bool.{le-leb, lt-leb}
 use Rattle.flatbuf.specs.Layout.{Vector}
 use Rattle.values.specs.Limits.{max_fields, max_depth}
-use Rattle.values.specs.Reading.{Reading, ◌>>=◌, second, Stands, Fails}
+use Rattle.values.specs.Reading.{Reading, ◌>>=◌, second, FailsWith, Fails}
 use Rattle.values.specs.Rose.{Rose}
 use Rattle.values.specs.declared.faults.StreamFault.{StreamFault}
 use Rattle.values.specs.declared.faults.StreamFault.TheVariants as fault
@@ -12,14 +12,14 @@ use Rattle.values.proofs.Readings.{both_left, both_right, fails_right, fails_fir
 use Rattle.schema_meta.specs.Entry.{Entry}
 use Rattle.field_types.specs.Reads.{needs, checked}
 use Rattle.schema_meta.specs.Fields.{forest}
-use Rattle.schema_meta.specs.FieldLayouts.{are_within_slot, layouts_of}
+use Rattle.schema_meta.specs.FieldLayouts.{layouts_of, null_weights_fit}
 use Rattle.schema_meta.specs.Dictionaries.{are_consistent}
 use Rattle.schema_meta.specs.Totals.{total}
 use Rattle.schema_meta.specs.Schema.{columns_of, validated_fields}
 use Rattle.schema_meta.proofs.Faults.{bind_right, needs_stands, checked_stands}
 use Rattle.schema_meta.proofs.FieldFacts.{few_read}
 
-pub too_many : (v : Vector) → max_fields < total max_depth v → Stands (columns_of v) fault.TooManyFields
+pub too_many : (v : Vector) → max_fields < total max_depth v → FailsWith (columns_of v) fault.TooManyFields
 unfolding columns_of
 too_many v many =
     both_left second (needs fault.TooManyFields (nat_le (total max_depth v) max_fields)) (forest max_depth v
@@ -35,29 +35,29 @@ not_read v c fails =
     (fails_first (forest max_depth v) validated_fields c fails)
 
 abbrev slot_test : List (Rose Entry) → Reading (Unit {0})
-slot_test fs = needs fault.BadType (are_within_slot (layouts_of fs))
+slot_test fs = needs fault.BadType (null_weights_fit (layouts_of fs))
 
 abbrev clear_test : List (Rose Entry) → Reading (List (Rose Entry))
 clear_test fs = checked fault.DictionaryClash (are_consistent fs) fs
 
 invalid_fields : (v : Vector) (c : StreamFault) (fs : List (Rose Entry)) → forest max_depth v ≡ Ok fs
-    → Stands (validated_fields fs) c
-    → Stands (columns_of v) c
+    → FailsWith (validated_fields fs) c
+    → FailsWith (columns_of v) c
 unfolding columns_of
 invalid_fields v c fs read h =
     both_right second (needs fault.TooManyFields (nat_le (total max_depth v) max_fields)) (forest max_depth v
     >>= validated_fields) c (bind_right (forest max_depth v) validated_fields c fs read h)
 
 pub too_wide : (v : Vector) (fs : List (Rose Entry)) → forest max_depth v ≡ Ok fs
-    → are_within_slot (layouts_of fs) ≡ false → Stands (columns_of v) fault.BadType
+    → null_weights_fit (layouts_of fs) ≡ false → FailsWith (columns_of v) fault.BadType
 unfolding validated_fields
 too_wide v fs read wide =
     invalid_fields v fault.BadType fs read
     (both_left second (slot_test fs) (clear_test fs) fault.BadType
-    (needs_stands fault.BadType (are_within_slot (layouts_of fs)) fault.BadType wide refl))
+    (needs_stands fault.BadType (null_weights_fit (layouts_of fs)) fault.BadType wide refl))
 
 pub clashing : (v : Vector) (fs : List (Rose Entry)) → forest max_depth v ≡ Ok fs → are_consistent fs ≡ false
-    → Stands (columns_of v) fault.DictionaryClash
+    → FailsWith (columns_of v) fault.DictionaryClash
 unfolding validated_fields
 clashing v fs read unclear =
     invalid_fields v fault.DictionaryClash fs read
@@ -66,12 +66,12 @@ clashing v fs read unclear =
 
 pub all_read :
     (v : Vector) (fs : List (Rose Entry)) (left : ℕ) → left + total max_depth v ≡ max_fields
-    → forest max_depth v ≡ Ok fs → are_within_slot (layouts_of fs) ≡ true
+    → forest max_depth v ≡ Ok fs → null_weights_fit (layouts_of fs) ≡ true
     → are_consistent fs ≡ true → columns_of v ≡ Ok fs
 unfolding columns_of validated_fields
-all_read v fs left few read within_slot-is clear-is =
+all_read v fs left few read null_weight_within-is clear-is =
     let test : nat_le (total max_depth v) max_fields ≡ true =
     le-leb (total max_depth v) max_fields (omega (arith, few)) in
-    rw (test, read, within_slot-is, clear-is) refl
+    rw (test, read, null_weight_within-is, clear-is) refl
 
 pub ruleset columns_read = (too_many, not_read, too_wide, clashing, all_read, few_read)

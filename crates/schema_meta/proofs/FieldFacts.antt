@@ -51,7 +51,7 @@ use Rattle.schema_meta.specs.FieldLayouts.{
   slot_layout,
   slot_layout_of,
   slot_layouts_of,
-  are_within_slot,
+  null_weights_fit,
 }
 use Rattle.schema_meta.specs.declared.encoding.DictionaryEncoding.{DictionaryEncoding}
 use Rattle.schema_meta.specs.Dictionaries.{are_consistent}
@@ -367,14 +367,14 @@ pub few_read : (v : Vector) (fs : List (Rose Entry)) (left room : ℕ) → fores
 few_read v fs left room read count = omega (arith, (forest_known max_depth v fs read).size, count)
 
 judged_is : (fs gs : List (Rose Entry)) → validated_fields fs ≡ Ok gs
-    → (are_within_slot (layouts_of fs) ≡ true) × (are_consistent fs ≡ true) × (fs ≡ gs)
+    → (null_weights_fit (layouts_of fs) ≡ true) × (are_consistent fs ≡ true) × (fs ≡ gs)
 unfolding validated_fields
 judged_is fs gs e =
     let parts =
-    both_Ok second (needs fault.BadType (are_within_slot (layouts_of fs)))
+    both_Ok second (needs fault.BadType (null_weights_fit (layouts_of fs)))
     (checked fault.DictionaryClash (are_consistent fs) fs) gs e in
     let clear = passed fault.DictionaryClash (are_consistent fs) fs parts.1 parts.3 in
-    (needed fault.BadType (are_within_slot (layouts_of fs)) parts.0 parts.2, clear.0, clear.1 ∙ parts.4)
+    (needed fault.BadType (null_weights_fit (layouts_of fs)) parts.0 parts.2, clear.0, clear.1 ∙ parts.4)
 
 columns_known : (v : Vector) (fs : List (Rose Entry)) → columns_of v ≡ Ok fs → AreFields fs
 unfolding columns_of
@@ -394,7 +394,7 @@ columns_known v fs e =
       shallow = known.shallow;
       layouts = known.layouts;
       slots = known.slots;
-      within_slot = are.0;
+      null_weight_within = are.0;
       clear = are.1;
       valid = known.valid;
     })
@@ -410,7 +410,7 @@ in_known None fs e =
       shallow = omega arith;
       layouts = tt;
       slots = tt;
-      within_slot = refl;
+      null_weight_within = refl;
       clear = refl;
       valid = tt;
     })

@@ -30,7 +30,7 @@ use Rattle.values.specs.declared.col_type.ColType.{ColType}
 use Rattle.values.specs.declared.col_type.ColType.TheVariants as stored
 use Rattle.schema_meta.specs.Entry.{Entry}
 use Rattle.schema_meta.specs.Logical.{logical_field, named_below}
-use Rattle.schema_meta.specs.FieldLayouts.{layouts_of, is_within_slot, are_within_slot}
+use Rattle.schema_meta.specs.FieldLayouts.{layouts_of, null_weight_fits, null_weights_fit}
 use Rattle.schema_meta.specs.FieldsLaw.{AreGoodFields, ColumnsFit, ColumnsNamed}
 use Rattle.schema_meta.specs.LogicalLaw.{narrow_tree, narrow_trees}
 use Rattle.schema_meta.specs.SchemaTree.{AreWithin}
@@ -141,12 +141,12 @@ below-depth s (more (node e kids) fs) = rw (below-depth e.stored kids, below-dep
 -- so do the slots
 
 mutual
-  within_slot-narrow : (t : Rose Layout) → is_within_slot (narrow_tree t) ≡ is_within_slot t
-  within_slot-narrow (node l kids) = rw (slot-narrow (node l kids), within_slots-narrow kids) refl
+  null_weight_within-narrow : (t : Rose Layout) → null_weight_fits (narrow_tree t) ≡ null_weight_fits t
+  null_weight_within-narrow (node l kids) = rw (slot-narrow (node l kids), null_weights_within-narrow kids) refl
 
-  within_slots-narrow : (ts : Roses Layout) → are_within_slot (narrow_trees ts) ≡ are_within_slot ts
-  within_slots-narrow none = refl
-  within_slots-narrow (more t ts) = rw (within_slot-narrow t, within_slots-narrow ts) refl
+  null_weights_within-narrow : (ts : Roses Layout) → null_weights_fit (narrow_trees ts) ≡ null_weights_fit ts
+  null_weights_within-narrow none = refl
+  null_weights_within-narrow (more t ts) = rw (null_weight_within-narrow t, null_weights_within-narrow ts) refl
 
 pub columns-named : ColumnsNamed
 columns-named fields known =
@@ -156,5 +156,5 @@ columns-named fields known =
       logical = rw below (below-logical stored.Struct (kids_of fields) known.valid);
       layouts = rw trees (narrow-fits (layouts_of fields) known.layouts);
       shallow = rw below (let same = below-depth stored.Struct (kids_of fields) in omega (arith, same, known.shallow));
-      within_slot = rw trees (within_slots-narrow (layouts_of fields) ∙ known.within_slot);
+      null_weight_within = rw trees (null_weights_within-narrow (layouts_of fields) ∙ known.null_weight_within);
     }

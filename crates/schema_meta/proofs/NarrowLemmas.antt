@@ -9,8 +9,8 @@ use Rattle.values.specs.Layouts.{
   Holds,
   HoldsAll,
   HoldsEach,
-  slot,
-  slots,
+  null_weight,
+  null_weights,
   weight,
   items_weight,
   row_weight,
@@ -127,19 +127,19 @@ mutual
   narrow-holds-each (more t ts) (item d es) h = (narrow-holds t d h.0, narrow-holds-each ts es h.1)
 
 mutual
-  pub slot-narrow : (t : Rose Layout) → slot (narrow_tree t) ≡ slot t
-  slot-narrow (node Booleans kids) = refl
-  slot-narrow (node (Int w s) kids) = refl
-  slot-narrow (node (Decimal p) kids) = refl
-  slot-narrow (node (FixedSizeBinary w) kids) = refl
-  slot-narrow (node (Utf8 o) kids) = refl
-  slot-narrow (node (Binary o) kids) = refl
-  slot-narrow (node (Listed o) kids) = refl
-  slot-narrow (node Struct kids) = ap (λ n. 1 + n) (slots-narrow kids)
+  pub null_weight-narrow : (t : Rose Layout) → null_weight (narrow_tree t) ≡ null_weight t
+  null_weight-narrow (node Booleans kids) = refl
+  null_weight-narrow (node (Int w s) kids) = refl
+  null_weight-narrow (node (Decimal p) kids) = refl
+  null_weight-narrow (node (FixedSizeBinary w) kids) = refl
+  null_weight-narrow (node (Utf8 o) kids) = refl
+  null_weight-narrow (node (Binary o) kids) = refl
+  null_weight-narrow (node (Listed o) kids) = refl
+  null_weight-narrow (node Struct kids) = ap (λ n. 1 + n) (null_weights-narrow kids)
 
-  slots-narrow : (ts : Roses Layout) → slots (narrow_trees ts) ≡ slots ts
-  slots-narrow none = refl
-  slots-narrow (more t ts) = let here = slot-narrow t in let rest = slots-narrow ts in omega (arith, here, rest)
+  null_weights-narrow : (ts : Roses Layout) → null_weights (narrow_trees ts) ≡ null_weights ts
+  null_weights-narrow none = refl
+  null_weights-narrow (more t ts) = let here = null_weight-narrow t in let rest = null_weights-narrow ts in omega (arith, here, rest)
 
 mutual
   pub narrow-weighs : (t : Rose Layout) (d : Datum) → weight (narrow_tree t) d ≡ weight t d
@@ -168,12 +168,12 @@ mutual
   narrow-weighs (node (Listed o) kids) (bytes b) = refl
   narrow-weighs (node (Listed o) kids) (list es) = ap (λ n. 5 + n) (narrow-items-weigh kids es)
   narrow-weighs (node (Listed o) kids) (structure es) = refl
-  narrow-weighs (node Struct kids) null = slot-narrow (node Struct kids)
-  narrow-weighs (node Struct kids) (truth b) = slot-narrow (node Struct kids)
-  narrow-weighs (node Struct kids) (whole z) = slot-narrow (node Struct kids)
-  narrow-weighs (node Struct kids) (text b) = slot-narrow (node Struct kids)
-  narrow-weighs (node Struct kids) (bytes b) = slot-narrow (node Struct kids)
-  narrow-weighs (node Struct kids) (list es) = slot-narrow (node Struct kids)
+  narrow-weighs (node Struct kids) null = null_weight-narrow (node Struct kids)
+  narrow-weighs (node Struct kids) (truth b) = null_weight-narrow (node Struct kids)
+  narrow-weighs (node Struct kids) (whole z) = null_weight-narrow (node Struct kids)
+  narrow-weighs (node Struct kids) (text b) = null_weight-narrow (node Struct kids)
+  narrow-weighs (node Struct kids) (bytes b) = null_weight-narrow (node Struct kids)
+  narrow-weighs (node Struct kids) (list es) = null_weight-narrow (node Struct kids)
   narrow-weighs (node Struct kids) (structure es) = ap (λ n. 1 + n) (narrow-row-weighs kids es)
 
   narrow-items-weigh : (ts : Roses Layout) (es : Items) → items_weight (narrow_trees ts) es ≡ items_weight ts es

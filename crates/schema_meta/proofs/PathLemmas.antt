@@ -31,7 +31,7 @@ use Rattle.std.proofs.lemmas.Bool.Decides.{nat_tests}
 use Rattle.std.specs.Prelude.{◌==◌, if◌then◌else◌}
 use Rattle.flatbuf.specs.Layout.{Table, Vector, vector_of, entry_of}
 use Rattle.values.specs.Limits.{max_fields, max_depth}
-use Rattle.values.specs.Reading.{Reading, ◌>>=◌, both, second, cons, each, one, Stands}
+use Rattle.values.specs.Reading.{Reading, ◌>>=◌, both, second, cons, each, one, FailsWith}
 use Rattle.values.specs.Rose.{Rose}
 use Rattle.values.specs.declared.faults.StreamFault.{StreamFault}
 use Rattle.values.specs.declared.faults.StreamFault.TheVariants as fault
@@ -42,7 +42,7 @@ use Rattle.field_types.specs.SchemaFbs as fbs
 use Rattle.field_types.specs.Reads.{readable, needs, checked, bool_of}
 use Rattle.field_types.specs.Kinds.{kind_of, may_have}
 use Rattle.field_types.specs.Types.{type_of}
-use Rattle.schema_meta.specs.FieldLayouts.{are_within_slot, layouts_of}
+use Rattle.schema_meta.specs.FieldLayouts.{layouts_of, null_weights_fit}
 use Rattle.schema_meta.specs.Dictionaries.{are_consistent}
 use Rattle.schema_meta.specs.Encoding.{field_encoding_of}
 use Rattle.schema_meta.specs.Fields.{
@@ -69,7 +69,7 @@ use Rattle.schema_meta.specs.Paths.{
   FaultOfField,
   FaultOfEntry,
   Leads,
-  StandsBelow,
+  FaultBelow,
   IsDeeper,
   FaultOfColumns,
   FaultOfSchema,
@@ -107,17 +107,17 @@ Below = Vector → Reading (List (Rose Entry))
 
 abbrev IsInChildren : Below → Table → StreamFault → Type 0
 IsInChildren below t c =
-    (k : TypeKind) × (w : Vector) × (kind_of t ≡ Ok k) × (vector_of t fbs.children ≡ Some (Some w)) × Stands (below w) c
+    (k : TypeKind) × (w : Vector) × (kind_of t ≡ Ok k) × (vector_of t fbs.children ≡ Some (Some w)) × FailsWith (below w) c
 
 -- from the reading to paths
 in_vector :
     (below : Below) (t : Table) (c : StreamFault) (k : TypeKind) (v : Option Vector) → kind_of t ≡ Ok k
-    → vector_of t fbs.children ≡ Some v → Stands (fields_in below v) c → IsInChildren below t c
+    → vector_of t fbs.children ≡ Some v → FailsWith (fields_in below v) c → IsInChildren below t c
 in_vector below t c k None e f h = absurd h
 in_vector below t c k (Some w) e f h = (k, w, e, f, h)
 
 children_found :
-    (below : Below) (t : Table) (c : StreamFault) (k : TypeKind) → kind_of t ≡ Ok k → Stands (children_of below k t) c
+    (below : Below) (t : Table) (c : StreamFault) (k : TypeKind) → kind_of t ≡ Ok k → FailsWith (children_of below k t) c
     → FaultOfField t c ⊎ IsInChildren below t c
 unfolding children_of
 children_found below t c k e h =
@@ -135,7 +135,7 @@ children_found below t c k e h =
 
 content_found :
     (below : Below) (t : Table) (c : StreamFault) (k : TypeKind) → kind_of t ≡ Ok k
-    → Stands (both content (both storage (type_of k t) (field_encoding_of k t)) (children_of below k t)) c
+    → FailsWith (both content (both storage (type_of k t) (field_encoding_of k t)) (children_of below k t)) c
     → FaultOfField t c ⊎ IsInChildren below t c
 content_found below t c k e h =
     elim (stands_both content (both storage (type_of k t) (field_encoding_of k t)) (children_of below k t) c h) [
@@ -146,7 +146,7 @@ content_found below t c k e h =
     ]
 
 field_found :
-    (below : Below) (t : Table) (c : StreamFault) → Stands (field_of below t) c
+    (below : Below) (t : Table) (c : StreamFault) → FailsWith (field_of below t) c
     → FaultOfField t c ⊎ IsInChildren below t c
 unfolding field_of label_of content_of
 field_found below t c h =
@@ -163,8 +163,8 @@ field_found below t c h =
     ]
 
 entry_found :
-    (below : Below) (o : Option Table) (c : StreamFault) → Stands (readable o >>= field_of below) c
-    → FaultOfEntry o c ⊎ ((w : Vector) × (children_at o ≡ Some w) × Stands (below w) c)
+    (below : Below) (o : Option Table) (c : StreamFault) → FailsWith (readable o >>= field_of below) c
+    → FaultOfEntry o c ⊎ ((w : Vector) × (children_at o ≡ Some w) × FailsWith (below w) c)
 entry_found below None c h = inl h
 entry_found below (Some t) c h =
     elim (field_found below t c h) [ inl a ↦ inl a | inr b ↦ inr (b.1, rw (b.2, b.3) refl, b.4) ]
@@ -183,18 +183,18 @@ not_above : (m n : ℕ) → n < m → nat_le m n ≡ false
 not_above m n e = grind (arith, nat_tests)
 
 at_found :
-    (below : Below) (v : Vector) (i : ℕ) (c : StreamFault) → Stands (entry_by below v i) c
-    → FaultOfEntry (entry_of v i) c ⊎ ((w : Vector) × (child_at v i ≡ Some w) × Stands (below w) c)
+    (below : Below) (v : Vector) (i : ℕ) (c : StreamFault) → FailsWith (entry_by below v i) c
+    → FaultOfEntry (entry_of v i) c ⊎ ((w : Vector) × (child_at v i ≡ Some w) × FailsWith (below w) c)
 unfolding entry_by child_at
 at_found below v i c h = entry_found below (entry_of v i) c h
 
-if_found : (b : Bool) (c : StreamFault) → Stands (no_fields b) c → (b ≡ false) × (fault.TooManyFields ≡ c)
+if_found : (b : Bool) (c : StreamFault) → FailsWith (no_fields b) c → (b ≡ false) × (fault.TooManyFields ≡ c)
 if_found true c h = absurd h
 if_found false c h = (refl, h)
 
 forest_found :
-    (depth : ℕ) (v : Vector) (c : StreamFault) → Stands (forest depth v) c
-    → StandsBelow depth v c ⊎ (IsDeeper depth v × (fault.TooManyFields ≡ c))
+    (depth : ℕ) (v : Vector) (c : StreamFault) → FailsWith (forest depth v) c
+    → FaultBelow depth v c ⊎ (IsDeeper depth v × (fault.TooManyFields ≡ c))
 unfolding forest
 forest_found zero v c h =
     let n = if_found (v.count == 0) c h in
@@ -203,7 +203,7 @@ forest_found (suc depth) v c h =
     let r = stands_each (entry_by (forest depth) v) 0 v.count c h in
     let k : ℕ = r.0 in
     let j : 0 + k ≡ k = omega arith in
-    let P : ℕ → Type 0 = λ i. Stands (entry_by (forest depth) v i) c in
+    let P : ℕ → Type 0 = λ i. FailsWith (entry_by (forest depth) v i) c in
     elim (at_found (forest depth) v k c (subst P j r.2)) [
       | inl a ↦ inl
           (record { path = []; end = v; leads = refl; within = omega arith; index = k; inside = r.1; fault_of = a })
@@ -236,28 +236,28 @@ forest_found (suc depth) v c h =
 
 -- the tests of fields that are all known
 abbrev slot_test : List (Rose Entry) → Reading (Unit {0})
-slot_test fs = needs fault.BadType (are_within_slot (layouts_of fs))
+slot_test fs = needs fault.BadType (null_weights_fit (layouts_of fs))
 
 abbrev clear_test : List (Rose Entry) → Reading (List (Rose Entry))
 clear_test fs = checked fault.DictionaryClash (are_consistent fs) fs
 
 judged_found :
-    (fs : List (Rose Entry)) (c : StreamFault) → Stands (validated_fields fs) c
-    → ((are_within_slot (layouts_of fs) ≡ false) × (fault.BadType ≡ c))
+    (fs : List (Rose Entry)) (c : StreamFault) → FailsWith (validated_fields fs) c
+    → ((null_weights_fit (layouts_of fs) ≡ false) × (fault.BadType ≡ c))
     ⊎ ((are_consistent fs ≡ false) × (fault.DictionaryClash ≡ c))
 unfolding validated_fields
 judged_found fs c h =
     elim (stands_both second (slot_test fs) (clear_test fs) c h) [
-      | inl a ↦ inl (needs_found fault.BadType (are_within_slot (layouts_of fs)) c a)
+      | inl a ↦ inl (needs_found fault.BadType (null_weights_fit (layouts_of fs)) c a)
       | inr b ↦ inr (checked_found fault.DictionaryClash (are_consistent fs) fs c b)
     ]
 
 judged_columns : (v : Vector) (fs : List (Rose Entry)) (c : StreamFault) → forest max_depth v ≡ Ok fs
-    → Stands (validated_fields fs) c → FaultOfColumns v c
+    → FailsWith (validated_fields fs) c → FaultOfColumns v c
 judged_columns v fs c read h =
     elim (judged_found fs c h) [ inl a ↦ by_slot fs read a.0 a.1 | inr b ↦ by_clash fs read b.0 b.1 ]
 
-columns_found : (v : Vector) (c : StreamFault) → Stands (columns_of v) c → FaultOfColumns v c
+columns_found : (v : Vector) (c : StreamFault) → FailsWith (columns_of v) c → FaultOfColumns v c
 unfolding columns_of
 columns_found v c h =
     elim (stands_both second (needs fault.TooManyFields (nat_le (total max_depth v) max_fields)) (forest max_depth v
@@ -273,12 +273,12 @@ columns_found v c h =
 
 fields_found :
     (t : Table) (v : Option Vector) (c : StreamFault) → vector_of t fbs.fields ≡ Some v
-    → Stands (fields_in columns_of v) c
+    → FailsWith (fields_in columns_of v) c
     → FaultOfSchema t c
 fields_found t None c e h = absurd h
 fields_found t (Some v) c e h = in_columns v e (columns_found v c h)
 
-pub found_by_paths : (t : Table) (c : StreamFault) → Stands (schema_of t) c → FaultOfSchema t c
+pub found_by_paths : (t : Table) (c : StreamFault) → FailsWith (schema_of t) c → FaultOfSchema t c
 unfolding schema_of
 found_by_paths t c h =
     elim (stands_both second (endianness_of t) (readable (vector_of t fbs.fields) >>= fields_in columns_of) c h) [
@@ -293,19 +293,19 @@ found_by_paths t c h =
 -- from paths to the reading
 in_content :
     (below : Below) (t : Table) (c : StreamFault) (k : TypeKind) → kind_of t ≡ Ok k
-    → Stands (both content (both storage (type_of k t) (field_encoding_of k t)) (children_of below k t)) c
-    → Stands (field_of below t) c
+    → FailsWith (both content (both storage (type_of k t) (field_encoding_of k t)) (children_of below k t)) c
+    → FailsWith (field_of below t) c
 unfolding field_of content_of
 in_content below t c k e h =
     let of : TypeKind → Reading _ =
     λ j. both content (both storage (type_of j t) (field_encoding_of j t)) (children_of below j t) in
     both_right field (label_of t) (content_of below t) c (bind_right (kind_of t) of c k e h)
 
-in_label : (below : Below) (t : Table) (c : StreamFault) → Stands (label_of t) c → Stands (field_of below t) c
+in_label : (below : Below) (t : Table) (c : StreamFault) → FailsWith (label_of t) c → FailsWith (field_of below t) c
 unfolding field_of
 in_label below t c h = both_left field (label_of t) (content_of below t) c h
 
-in_unkind : (below : Below) (t : Table) (c : StreamFault) → Stands (kind_of t) c → Stands (field_of below t) c
+in_unkind : (below : Below) (t : Table) (c : StreamFault) → FailsWith (kind_of t) c → FailsWith (field_of below t) c
 unfolding field_of content_of
 in_unkind below t c h =
     let of : TypeKind → Reading _ =
@@ -314,15 +314,15 @@ in_unkind below t c h =
 
 in_typed :
     (below : Below) (t : Table) (c : StreamFault) (k : TypeKind) → kind_of t ≡ Ok k
-    → Stands (both storage (type_of k t) (field_encoding_of k t)) c
-    → Stands (field_of below t) c
+    → FailsWith (both storage (type_of k t) (field_encoding_of k t)) c
+    → FailsWith (field_of below t) c
 in_typed below t c k e h =
     in_content below t c k e
     (both_left content (both storage (type_of k t) (field_encoding_of k t)) (children_of below k t) c h)
 
 in_vectors :
-    (below : Below) (t : Table) (c : StreamFault) (k : TypeKind) → kind_of t ≡ Ok k → Stands (children_of below k t) c
-    → Stands (field_of below t) c
+    (below : Below) (t : Table) (c : StreamFault) (k : TypeKind) → kind_of t ≡ Ok k → FailsWith (children_of below k t) c
+    → FailsWith (field_of below t) c
 in_vectors below t c k e h =
     in_content below t c k e
     (both_right content (both storage (type_of k t) (field_encoding_of k t)) (children_of below k t) c h)
@@ -330,8 +330,8 @@ in_vectors below t c k e h =
 in_some :
     (below : Below) (t : Table) (c : StreamFault) (k : TypeKind) (v : Option Vector) → kind_of t ≡ Ok k
     → vector_of t fbs.children ≡ Some v
-    → Stands (both second (needs fault.BadType (may_have k (count_in v))) (fields_in below v)) c
-    → Stands (field_of below t) c
+    → FailsWith (both second (needs fault.BadType (may_have k (count_in v))) (fields_in below v)) c
+    → FailsWith (field_of below t) c
 unfolding children_of
 in_some below t c k v e f h =
     let of : Option Vector → Reading _ =
@@ -339,7 +339,7 @@ in_some below t c k v e f h =
     in_vectors below t c k e
     (bind_right (readable (vector_of t fbs.children)) of c v (readable_some (vector_of t fbs.children) v f) h)
 
-field_stands : (below : Below) (t : Table) (c : StreamFault) → FaultOfField t c → Stands (field_of below t) c
+field_stands : (below : Below) (t : Table) (c : StreamFault) → FaultOfField t c → FailsWith (field_of below t) c
 unfolding label_of children_of
 field_stands below t c (in_name h) = in_label below t c (both_left label (name_of t) (bool_of t fbs.nullable) c h)
 field_stands below t c (in_nullable h) = in_label below t c (both_right label (name_of t) (bool_of t fbs.nullable) c h)
@@ -358,7 +358,7 @@ field_stands below t c (in_number k v e f m d) =
     (needs_stands fault.BadType (may_have k (count_in v)) c m d))
 
 entry_stands : (below : Below) (o : Option Table) (c : StreamFault) → FaultOfEntry o c
-    → Stands (readable o >>= field_of below) c
+    → FailsWith (readable o >>= field_of below) c
 entry_stands below None c h = h
 entry_stands below (Some t) c h = field_stands below t c h
 
@@ -370,58 +370,58 @@ children_some (Ok k) (Some v) w e = (k, refl, ap (λ u. Some u) e)
 children_some (Err fs) o w e = cc
 
 child_stands :
-    (below : Below) (o : Option Table) (c : StreamFault) (w : Vector) → children_at o ≡ Some w → Stands (below w) c
-    → Stands (readable o >>= field_of below) c
+    (below : Below) (o : Option Table) (c : StreamFault) (w : Vector) → children_at o ≡ Some w → FailsWith (below w) c
+    → FailsWith (readable o >>= field_of below) c
 child_stands below None c w e h = cc
 child_stands below (Some t) c w e h =
     let s = children_some (kind_of t) (vector_of t fbs.children) w e in
     in_some below t c s.0 (Some w) s.1 s.2
     (both_right second (needs fault.BadType (may_have s.0 (count_in (Some w)))) (fields_in below (Some w)) c h)
 
-each_stands : {X : Type 0} (f : ℕ → Reading X) (i n k : ℕ) (c : StreamFault) → k < n → Stands (f (i + k)) c
-    → Stands (each f i n) c
+each_stands : {X : Type 0} (f : ℕ → Reading X) (i n k : ℕ) (c : StreamFault) → k < n → FailsWith (f (i + k)) c
+    → FailsWith (each f i n) c
 unfolding each
 each_stands f i zero k c l h = absurd (omega arith)
 each_stands f i (suc n) zero c l h =
     let j : i + 0 ≡ i = omega arith in
-    both_left cons (f i) (each f (i + 1) n) c (subst (λ (m : ℕ). Stands (f m) c) j h)
+    both_left cons (f i) (each f (i + 1) n) c (subst (λ (m : ℕ). FailsWith (f m) c) j h)
 each_stands f i (suc n) (suc k) c l h =
     let j : i + suc k ≡ (i + 1) + k = omega arith in
     both_right cons (f i) (each f (i + 1) n) c
-    (each_stands f (i + 1) n k c (omega arith) (subst (λ (m : ℕ). Stands (f m) c) j h))
+    (each_stands f (i + 1) n k c (omega arith) (subst (λ (m : ℕ). FailsWith (f m) c) j h))
 
 at_stands :
     (below : Below) (v : Vector) (n i : ℕ) (c : StreamFault) → i < n
-    → Stands (readable (entry_of v i) >>= field_of below) c
-    → Stands (each (entry_by below v) 0 n) c
+    → FailsWith (readable (entry_of v i) >>= field_of below) c
+    → FailsWith (each (entry_by below v) 0 n) c
 unfolding entry_by
 at_stands below v n i c l h =
     let j : i ≡ 0 + i = omega arith in
     each_stands (entry_by below v) 0 n i c l
-    (subst (λ (m : ℕ). Stands (readable (entry_of v m) >>= field_of below) c) j h)
+    (subst (λ (m : ℕ). FailsWith (readable (entry_of v m) >>= field_of below) c) j h)
 
 path_stands :
     (p : List ℕ) (depth : ℕ) (v w : Vector) (i : ℕ) (c : StreamFault) → Leads p v w → length p < depth → i < w.count
-    → FaultOfEntry (entry_of w i) c → Stands (forest depth v) c
+    → FaultOfEntry (entry_of w i) c → FailsWith (forest depth v) c
 unfolding forest child_at
 path_stands p zero v w i c l d n h = absurd (omega arith)
 path_stands [] (suc depth) v w i c l d n h =
-    let P : Vector → Type 0 = λ u. (i < u.count) → FaultOfEntry (entry_of u i) c → Stands (forest (suc depth) v) c in
+    let P : Vector → Type 0 = λ u. (i < u.count) → FaultOfEntry (entry_of u i) c → FailsWith (forest (suc depth) v) c in
     subst P l (λ m f. at_stands (forest depth) v v.count i c m (entry_stands (forest depth) (entry_of v i) c f)) n h
 path_stands (j ∷ p) (suc depth) v w i c l d n h =
     at_stands (forest depth) v v.count j c l.0
     (child_stands (forest depth) (entry_of v j) c l.1.0 l.1.1
     (path_stands p depth l.1.0 w i c l.1.2 (omega (arith, d)) n h))
 
-if_stands : (n : ℕ) → 0 < n → Stands (no_fields (n == 0)) fault.TooManyFields
+if_stands : (n : ℕ) → 0 < n → FailsWith (no_fields (n == 0)) fault.TooManyFields
 if_stands n h = let e : (n == 0) ≡ false = grind (arith, nat_tests) in rw e refl
 
 depth_stands :
     (p : List ℕ) (depth : ℕ) (v w : Vector) → Leads p v w → length p ≡ depth → 0 < w.count
-    → Stands (forest depth v) fault.TooManyFields
+    → FailsWith (forest depth v) fault.TooManyFields
 unfolding forest child_at
 depth_stands [] zero v w l e n =
-    let P : Vector → Type 0 = λ u. (0 < u.count) → Stands (forest zero v) fault.TooManyFields in
+    let P : Vector → Type 0 = λ u. (0 < u.count) → FailsWith (forest zero v) fault.TooManyFields in
     subst P l (λ m. if_stands v.count m) n
 depth_stands [] (suc depth) v w l e n = absurd (omega arith)
 depth_stands (j ∷ p) zero v w l e n = absurd (omega arith)
@@ -430,32 +430,32 @@ depth_stands (j ∷ p) (suc depth) v w l e n =
     (child_stands (forest depth) (entry_of v j) fault.TooManyFields l.1.0 l.1.1
     (depth_stands p depth l.1.0 w l.1.2 (omega (arith, e)) n))
 
-within_slot_stands : (fs : List (Rose Entry)) (c : StreamFault) → are_within_slot (layouts_of fs) ≡ false
-    → fault.BadType ≡ c → Stands (validated_fields fs) c
+within_slot_stands : (fs : List (Rose Entry)) (c : StreamFault) → null_weights_fit (layouts_of fs) ≡ false
+    → fault.BadType ≡ c → FailsWith (validated_fields fs) c
 unfolding validated_fields
 within_slot_stands fs c wide e =
     both_left second (slot_test fs) (clear_test fs) c
-    (needs_stands fault.BadType (are_within_slot (layouts_of fs)) c wide e)
+    (needs_stands fault.BadType (null_weights_fit (layouts_of fs)) c wide e)
 
 clash_stands : (fs : List (Rose Entry)) (c : StreamFault) → are_consistent fs ≡ false → fault.DictionaryClash ≡ c
-    → Stands (validated_fields fs) c
+    → FailsWith (validated_fields fs) c
 unfolding validated_fields
 clash_stands fs c unclear e =
     both_right second (slot_test fs) (clear_test fs) c
     (checked_stands fault.DictionaryClash (are_consistent fs) fs c unclear e)
 
-in_forest : (v : Vector) (c : StreamFault) → Stands (forest max_depth v) c → Stands (columns_of v) c
+in_forest : (v : Vector) (c : StreamFault) → FailsWith (forest max_depth v) c → FailsWith (columns_of v) c
 unfolding columns_of
 in_forest v c h =
     both_right second (needs fault.TooManyFields (nat_le (total max_depth v) max_fields)) (forest max_depth v
     >>= validated_fields) c (bind_left (forest max_depth v) validated_fields c h)
 
-columns_stands : (v : Vector) (c : StreamFault) → FaultOfColumns v c → Stands (columns_of v) c
+columns_stands : (v : Vector) (c : StreamFault) → FaultOfColumns v c → FailsWith (columns_of v) c
 unfolding columns_of
 columns_stands v c (by_path s) =
     in_forest v c (path_stands s.path max_depth v s.end s.index c s.leads s.within s.inside s.fault_of)
 columns_stands v c (by_depth s e) =
-    let P : StreamFault → Type 0 = λ d. Stands (forest max_depth v) d in
+    let P : StreamFault → Type 0 = λ d. FailsWith (forest max_depth v) d in
     in_forest v c (subst P e (depth_stands s.path max_depth v s.end s.leads s.long s.some))
 columns_stands v c (by_count m e) =
     both_left second (needs fault.TooManyFields (nat_le (total max_depth v) max_fields)) (forest max_depth v
@@ -471,7 +471,7 @@ columns_stands v c (by_clash fs read unclear e) =
     >>= validated_fields) c
     (bind_right (forest max_depth v) validated_fields c fs read (clash_stands fs c unclear e))
 
-pub stands_by_paths : (t : Table) (c : StreamFault) → FaultOfSchema t c → Stands (schema_of t) c
+pub stands_by_paths : (t : Table) (c : StreamFault) → FaultOfSchema t c → FailsWith (schema_of t) c
 unfolding schema_of
 stands_by_paths t c (in_endianness h) =
     both_left second (endianness_of t) (readable (vector_of t fbs.fields) >>= fields_in columns_of) c h

@@ -48,7 +48,7 @@ use Rattle.schema_meta.specs.declared.header.MessageKind.TheVariants as kind
 use Rattle.field_types.specs.Reads.{short_of}
 use Rattle.field_types.specs.SchemaFbs as schema_fbs
 use Rattle.schema_meta.specs.MessageFbs as message_fbs
-use Rattle.schema_meta.specs.FieldLayouts.{are_within_slot}
+use Rattle.schema_meta.specs.FieldLayouts.{null_weights_fit}
 use Rattle.schema_meta.specs.Schema.{endianness_of, columns_of, schema_of}
 use Rattle.schema_meta.specs.Stage.{Known, Meta}
 use Rattle.schema_meta.specs.Message.{
@@ -101,9 +101,9 @@ columns-read v coded fs e columns named c h =
     let read =
     columns-forest-read coded 15 stored.Struct fs v (omega (arith, few)) (coded-texts coded fs c) sound counted h in
     let left : max_fields - roses_size (kids_of fs) + total max_depth v ≡ max_fields = omega (arith, few, counts) in
-    let P : Roses Layout → Type 0 = λ ls. are_within_slot ls ≡ true in
+    let P : Roses Layout → Type 0 = λ ls. null_weights_fit ls ≡ true in
     all_read v (coded_fields coded fs) (max_fields - roses_size (kids_of fs)) left read
-    (subst P (sym (coded-layouts-read coded fs)) named.within_slot) (coded-clear coded fs c)
+    (subst P (sym (coded-layouts-read coded fs)) named.null_weight_within) (coded-clear coded fs c)
 
 endianness-read : (t : Table) → NodeHeld t.bytes (slot_of t schema_fbs.endianness) (number 2 schema_fbs.little_endian)
     → endianness_of t ≡ Ok tt

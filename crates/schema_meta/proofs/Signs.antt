@@ -36,7 +36,7 @@ use Rattle.std.proofs.lemmas.Int.{to_z_pos, ints}
 use Rattle.std.proofs.lemmas.List.{get_or-drop}
 use Rattle.byteorder.specs.Endian.{twos_complement}
 use Rattle.byteorder.specs.Numbers.{little_from-lt}
-use Rattle.values.specs.Reading.{Reading, Stands, one}
+use Rattle.values.specs.Reading.{FailsWith, Reading, one}
 use Rattle.values.specs.Layouts.{offset_bytes}
 use Rattle.values.specs.declared.faults.StreamFault.TheVariants as fault
 use Rattle.values.specs.declared.layout.OffsetWidth.{OffsetWidth}
@@ -304,7 +304,7 @@ offsets-tested o offsets n limit some room =
     rw (ne_eqb n 0 (λ e. omega (arith, e, some)), le-ltb (length offsets) (offset_bytes o * (n + 1)) room) refl
 
 Says : Reading (Unit {0}) → Type 0 → Type 0
-Says m are = ((m ≡ Ok tt) ↔ are) × (Stands m fault.Offsets ↔ ¬ are)
+Says m are = ((m ≡ Ok tt) ↔ are) × (FailsWith m fault.Offsets ↔ ¬ are)
 
 tested-says : (such : Bool) (are : Type 0) → (such ≡ true → are) → (are → such ≡ true) → Says (tested such) are
 unfolding tested Says

@@ -1,8 +1,8 @@
 -- How the columns of a schema lie in memory.
 use Rattle.std.specs.Prelude.{Bool, true, List, Option, None, Some, ◌&&◌, nat_le}
-use Rattle.values.specs.Limits.{max_slot}
+use Rattle.values.specs.Limits.{max_null_weight}
 use Rattle.values.specs.Rose.{Rose, node, Roses, none, more, kids_of}
-use Rattle.values.specs.Layouts.{slot}
+use Rattle.values.specs.Layouts.{null_weight}
 use Rattle.values.specs.declared.layout.Layout.{Layout}
 use Rattle.values.specs.declared.layout.Layout.TheVariants.{Int}
 use Rattle.values.specs.declared.col_type.ColType.{ColType}
@@ -46,9 +46,9 @@ slot_layouts_of fields = slot_layouts_below (kids_of fields)
 
 -- no slot, at any level, is above 2^20
 abbrev mutual
-  pub is_within_slot : Rose Layout → Bool
-  is_within_slot (node l kids) = nat_le (slot (node l kids)) max_slot && are_within_slot kids
+  pub null_weight_fits : Rose Layout → Bool
+  null_weight_fits (node l kids) = nat_le (null_weight (node l kids)) max_null_weight && null_weights_fit kids
 
-  pub are_within_slot : Roses Layout → Bool
-  are_within_slot none = true
-  are_within_slot (more t ts) = is_within_slot t && are_within_slot ts
+  pub null_weights_fit : Roses Layout → Bool
+  null_weights_fit none = true
+  null_weights_fit (more t ts) = null_weight_fits t && null_weights_fit ts

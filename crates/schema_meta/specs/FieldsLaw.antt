@@ -10,7 +10,7 @@ use Rattle.values.specs.declared.col_type.ColType.{ColType}
 use Rattle.schema_meta.specs.declared.encoding.DictionaryEncoding.{DictionaryEncoding}
 use Rattle.schema_meta.specs.Dictionaries.{are_consistent}
 use Rattle.schema_meta.specs.Entry.{Entry}
-use Rattle.schema_meta.specs.FieldLayouts.{are_within_slot, layouts_of, slot_layouts_of}
+use Rattle.schema_meta.specs.FieldLayouts.{layouts_of, null_weights_fit, slot_layouts_of}
 use Rattle.schema_meta.specs.Logical.{logical_field}
 use Rattle.schema_meta.specs.Schema.{schema_of}
 use Rattle.schema_meta.specs.SchemaTree.{AreColumns}
@@ -38,7 +38,7 @@ pub record AreFields (fields : List (Rose Entry)) : Type 0 where
   pub shallow : roses_depth (kids_of fields) ≤ max_depth
   pub layouts : AreLayouts (layouts_of fields)
   pub slots : AreLayouts (slot_layouts_of fields)
-  pub within_slot : are_within_slot (layouts_of fields) ≡ true
+  pub null_weight_within : null_weights_fit (layouts_of fields) ≡ true
   pub clear : are_consistent fields ≡ true
   pub valid : AreGoodFields (kids_of fields)
 

@@ -19,17 +19,6 @@ abbrev pub dictionary_values : (ℤ → List Datum) → Option DictionaryEncodin
 dictionary_values values None s = None
 dictionary_values values (Some c) s = Some (record { layout = layout_by s; values = values c.id })
 
-abbrev pub with_dictionary : Option DictionaryValues → ArrayData → ArrayData
-with_dictionary w p = record {
-  layout = p.layout;
-  dictionary = w;
-  len = p.len;
-  nulls = p.nulls;
-  validity = p.validity;
-  offsets = p.offsets;
-  values = p.values;
-}
-
 -- the arrays of these fields, with the dictionaries that they have
 abbrev mutual
   pub decoded : (ℤ → List Datum) → Rose Entry → Rose ArrayData → Rose ArrayData

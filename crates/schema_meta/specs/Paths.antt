@@ -2,7 +2,7 @@
 use Rattle.std.specs.Prelude.{◌≡◌, ℕ, ◌<◌, false, Option, None, Some, Ok, List, [], ◌∷◌, length}
 use Rattle.flatbuf.specs.Layout.{Table, Vector, vector_of, entry_of}
 use Rattle.values.specs.Limits.{max_fields, max_depth}
-use Rattle.values.specs.Reading.{Stands}
+use Rattle.values.specs.Reading.{FailsWith}
 use Rattle.values.specs.declared.faults.StreamFault.{StreamFault}
 use Rattle.values.specs.declared.faults.StreamFault.TheVariants as fault
 use Rattle.field_types.specs.declared.kinds.TypeKind.{TypeKind}
@@ -12,7 +12,7 @@ use Rattle.field_types.specs.SchemaFbs as fbs
 use Rattle.field_types.specs.Reads.{readable, bool_of}
 use Rattle.field_types.specs.Kinds.{kind_of, may_have}
 use Rattle.field_types.specs.Types.{type_of}
-use Rattle.schema_meta.specs.FieldLayouts.{are_within_slot, layouts_of}
+use Rattle.schema_meta.specs.FieldLayouts.{layouts_of, null_weights_fit}
 use Rattle.schema_meta.specs.Dictionaries.{are_consistent}
 use Rattle.schema_meta.specs.Encoding.{field_encoding_of}
 use Rattle.schema_meta.specs.Fields.{name_of, count_in, child_at, forest}
@@ -21,12 +21,12 @@ use Rattle.schema_meta.specs.Schema.{endianness_of, schema_of}
 
 -- The fault is one of a slot of the field's own table.
 pub data FaultOfField (t : Table) (c : StreamFault) : Type 0 where
-  in_name : Stands (name_of t) c → FaultOfField t c
-  in_nullable : Stands (bool_of t fbs.nullable) c → FaultOfField t c
-  in_kind : Stands (kind_of t) c → FaultOfField t c
-  in_type : (k : TypeKind) → kind_of t ≡ Ok k → Stands (type_of k t) c → FaultOfField t c
-  in_dictionary : (k : TypeKind) → kind_of t ≡ Ok k → Stands (field_encoding_of k t) c → FaultOfField t c
-  in_children : (k : TypeKind) → kind_of t ≡ Ok k → Stands (readable (vector_of t fbs.children)) c → FaultOfField t c
+  in_name : FailsWith (name_of t) c → FaultOfField t c
+  in_nullable : FailsWith (bool_of t fbs.nullable) c → FaultOfField t c
+  in_kind : FailsWith (kind_of t) c → FaultOfField t c
+  in_type : (k : TypeKind) → kind_of t ≡ Ok k → FailsWith (type_of k t) c → FaultOfField t c
+  in_dictionary : (k : TypeKind) → kind_of t ≡ Ok k → FailsWith (field_encoding_of k t) c → FaultOfField t c
+  in_children : (k : TypeKind) → kind_of t ≡ Ok k → FailsWith (readable (vector_of t fbs.children)) c → FaultOfField t c
   in_number :
       (k : TypeKind) (v : Option Vector) → kind_of t ≡ Ok k → vector_of t fbs.children ≡ Some v
       → may_have k (count_in v) ≡ false
@@ -42,7 +42,7 @@ Leads [] v w = v ≡ w
 Leads (i ∷ p) v w = (i < v.count) × ((u : Vector) × (child_at v i ≡ Some u) × Leads p u w)
 
 -- The fault stands at the end of a path through less than `depth` fields.
-pub record StandsBelow (depth : ℕ) (v : Vector) (c : StreamFault) : Type 0 where
+pub record FaultBelow (depth : ℕ) (v : Vector) (c : StreamFault) : Type 0 where
   pub path : List ℕ
   pub end : Vector
   pub leads : Leads path v end
@@ -62,23 +62,23 @@ pub record IsDeeper (depth : ℕ) (v : Vector) : Type 0 where
 -- The faults of the columns: those by paths, too many fields by their counts or by their depth, and where all fields
 -- are known a slot that is too large, and dictionaries of one id with different types.
 pub data FaultOfColumns (v : Vector) (c : StreamFault) : Type 0 where
-  by_path : StandsBelow max_depth v c → FaultOfColumns v c
+  by_path : FaultBelow max_depth v c → FaultOfColumns v c
   by_depth : IsDeeper max_depth v → fault.TooManyFields ≡ c → FaultOfColumns v c
   by_count : max_fields < total max_depth v → fault.TooManyFields ≡ c → FaultOfColumns v c
-  by_slot : (fs : List (Rose Entry)) → forest max_depth v ≡ Ok fs → are_within_slot (layouts_of fs) ≡ false
+  by_slot : (fs : List (Rose Entry)) → forest max_depth v ≡ Ok fs → null_weights_fit (layouts_of fs) ≡ false
       → fault.BadType ≡ c → FaultOfColumns v c
   by_clash : (fs : List (Rose Entry)) → forest max_depth v ≡ Ok fs → are_consistent fs ≡ false
       → fault.DictionaryClash ≡ c
       → FaultOfColumns v c
 
 pub data FaultOfSchema (t : Table) (c : StreamFault) : Type 0 where
-  in_endianness : Stands (endianness_of t) c → FaultOfSchema t c
-  in_fields : Stands (readable (vector_of t fbs.fields)) c → FaultOfSchema t c
+  in_endianness : FailsWith (endianness_of t) c → FaultOfSchema t c
+  in_fields : FailsWith (readable (vector_of t fbs.fields)) c → FaultOfSchema t c
   in_columns : (v : Vector) → vector_of t fbs.fields ≡ Some (Some v) → FaultOfColumns v c → FaultOfSchema t c
 
 -- A fault is in the schema's reading exactly where it stands by a path.
 abbrev pub FoundByPaths : Type 0
-FoundByPaths = (t : Table) (c : StreamFault) → Stands (schema_of t) c → FaultOfSchema t c
+FoundByPaths = (t : Table) (c : StreamFault) → FailsWith (schema_of t) c → FaultOfSchema t c
 
-abbrev pub StandsByPaths : Type 0
-StandsByPaths = (t : Table) (c : StreamFault) → FaultOfSchema t c → Stands (schema_of t) c
+abbrev pub FaultsByPaths : Type 0
+FaultsByPaths = (t : Table) (c : StreamFault) → FaultOfSchema t c → FailsWith (schema_of t) c

@@ -9,7 +9,7 @@ use Rattle.values.specs.declared.faults.StreamFault.TheVariants as fault
 use Rattle.schema_meta.specs.Entry.{Entry}
 use Rattle.field_types.specs.SchemaFbs as fbs
 use Rattle.field_types.specs.Reads.{readable, needs, checked, short_of}
-use Rattle.schema_meta.specs.FieldLayouts.{layouts_of, are_within_slot}
+use Rattle.schema_meta.specs.FieldLayouts.{layouts_of, null_weights_fit}
 use Rattle.schema_meta.specs.Dictionaries.{are_consistent}
 use Rattle.schema_meta.specs.Fields.{forest, fields_in}
 use Rattle.schema_meta.specs.Totals.{total}
@@ -22,7 +22,7 @@ endianness_of t =
 -- The slots of fields, and whether ids clash, are checked where all types are known.
 unfoldable pub validated_fields : List (Rose Entry) → Reading (List (Rose Entry))
 validated_fields fields =
-    both second (needs fault.BadType (are_within_slot (layouts_of fields)))
+    both second (needs fault.BadType (null_weights_fit (layouts_of fields)))
     (checked fault.DictionaryClash (are_consistent fields) fields)
 
 -- At most 1,024 fields at all levels, of at most 16 levels.

@@ -6,7 +6,7 @@ use Rattle.values.specs.Logical.{NamedType, AreLogicalColumns, trees_of}
 use Rattle.schema_meta.specs.Entry.{Entry}
 use Rattle.values.specs.Coded.{AreCoded}
 use Rattle.schema_meta.specs.Coded.{encoding_at}
-use Rattle.schema_meta.specs.FieldLayouts.{are_within_slot}
+use Rattle.schema_meta.specs.FieldLayouts.{null_weights_fit}
 use Rattle.schema_meta.specs.Logical.{logical_field}
 use Rattle.schema_meta.specs.SchemaTree.{AreColumns, schema_metadata}
 use Rattle.schema_meta.specs.Stage.{Known}
@@ -46,7 +46,7 @@ pub record AreNamed (fields : List (Rose NamedType)) : Type 0 where
   pub logical : AreLogicalColumns fields
   pub layouts : AreLayouts (trees_of (kids_of fields))
   pub shallow : roses_depth (kids_of fields) ≤ 16
-  pub within_slot : are_within_slot (trees_of (kids_of fields)) ≡ true
+  pub null_weight_within : null_weights_fit (trees_of (kids_of fields)) ≡ true
 
 -- a stream before its schema, with the columns that are declared for it, if any are
 abbrev pub before : Option (List (Rose NamedType)) → Known

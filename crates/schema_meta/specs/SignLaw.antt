@@ -20,7 +20,7 @@ use Rattle.std.specs.Prelude.{
   ◌↔◌,
 }
 use Rattle.std.specs.Int.{w32, w64, cast_signed}
-use Rattle.values.specs.Reading.{Stands}
+use Rattle.values.specs.Reading.{FailsWith}
 use Rattle.values.specs.Layouts.{offset_bytes}
 use Rattle.values.specs.declared.faults.StreamFault.TheVariants as fault
 use Rattle.values.specs.declared.layout.OffsetWidth.{OffsetWidth}
@@ -80,7 +80,7 @@ SignedArrays =
     (o : OffsetWidth) (offsets : List ℕ) (n limit : ℕ) → ((k : ℕ) → slice_index offsets k < 256) → 0 < n
     → offset_bytes o * (n + 1) ≤ length offsets
     → ((offsets_of o offsets n limit ≡ Ok tt) ↔ AreOffsets o offsets n limit)
-    × (Stands (offsets_of o offsets n limit) fault.Offsets ↔ ¬ (AreOffsets o offsets n limit))
+    × (FailsWith (offsets_of o offsets n limit) fault.Offsets ↔ ¬ (AreOffsets o offsets n limit))
 
 -- the size of a message's metadata is within its limit
 abbrev pub SignedSize : Type 0

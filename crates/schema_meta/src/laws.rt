@@ -11,7 +11,7 @@ ghost use Rattle.schema_meta.specs.LogicalLaw.{
 };
 ghost use Rattle.schema_meta.specs.PlaceLaw.{PlaceLaw, SameArraysLaw, ValuesLaw, TypedArraysLaw};
 ghost use Rattle.schema_meta.specs.PlainLaw.{PlainArrays, PlainSlots};
-ghost use Rattle.schema_meta.specs.Paths.{FoundByPaths, StandsByPaths};
+ghost use Rattle.schema_meta.specs.Paths.{FaultsByPaths, FoundByPaths};
 ghost use Rattle.schema_meta.specs.SchemaLaw.{ColumnsLaw, NoneCoded, SchemaLaw};
 ghost use Rattle.schema_meta.specs.SignLaw.{
   SignedArrays,
@@ -28,7 +28,7 @@ ghost use Rattle.schema_meta.specs.SignLaw.{
 /// schema's table down, each path read by itself; too many fields stand by their counts or their depth.
 pub fn path_law()
     ensures found { FoundByPaths }
-    ensures stands { StandsByPaths }
+    ensures stands { FaultsByPaths }
 {}
 
 /// Fields that are read are at most 1,024 at all levels, nested to 16 levels, with short names, types within their

@@ -18,10 +18,10 @@ mod header;
 mod laws;
 mod layouts;
 pub mod message_fbs;
+mod null_weight;
 mod parts;
 mod schema;
 mod shape;
-mod slot;
 mod value_types;
 mod write;
 
@@ -32,6 +32,6 @@ pub use laws::{
     clash_law, fields_law, logical_law, path_law, place_law, plain_law, schema_law, sign_law,
 };
 pub use layouts::layout_trees;
-pub use parts::{ArrayCursor, place_array, place_values};
+pub use parts::{place_array, place_values};
 pub use schema::{StreamSchema, read_schema};
 pub use write::{write_message, write_schema};

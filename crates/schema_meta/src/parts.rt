@@ -1,114 +1,26 @@
 //! Places the arrays of a batch in its body: Arrow Columnar Format, "RecordBatch message".
 
-ghost use Rattle.std.specs.Prelude.{◌≡◌, ◌+◌, ◌<◌, ◌≤◌, ◌^◌, IfOk, length};
+ghost use Rattle.std.specs.Prelude.{◌≡◌, ◌+◌, ◌≤◌, IfOk, length};
 ghost use Rattle.values.specs.Rose.{kids_of, rose_size, roses_size};
 ghost use Rattle.dictionaries.specs.Table.{values_in};
-ghost use Rattle.array_layout.specs.Placing.{
-  node_at,
-  offsets_at,
-  data_at,
-  placed,
-  placed_all,
-  range_at,
-  ranges_below,
-  ranges_in,
-  values_at,
-};
+ghost use Rattle.array_layout.specs.Placing.{placed, placed_all, ranges_below, ranges_in};
 ghost use Rattle.schema_meta.specs.FieldLayouts.{slot_layout_of, slot_layouts_of};
 ghost use Rattle.schema_meta.specs.Parts.{
   decoded,
   decoded_all,
-  values_array,
-  with_dictionary,
   dictionary_values,
+  values_array,
 };
 
 use crate::encoding::DictionaryEncoding;
 use crate::field::Field;
 use crate::header::BatchHeader;
-use array_layout::{Array, ArrayData, BufferRange, DictionaryValues, FieldNode, own_ranges};
+use array_layout::{
+    Array, ArrayCursor, BufferRange, DictionaryValues, FieldNode, array_at, own_ranges,
+};
 use dictionaries::Dicts;
 use std::alloc::{AllocError, Global};
-use values::{ColType, Layout};
-
-/// Where the next array of a batch begins: the index of its node, and that of its first buffer.
-#[derive(Drop)]
-pub struct ArrayCursor {
-    pub node: usize,
-    pub range: usize,
-}
-
-const NOWHERE: BufferRange = BufferRange { from: 0, len: 0 };
-
-/// Buffer `index`, or one of length 0 where there is none.
-fn range_at(ranges: &[BufferRange], index: usize) -> BufferRange
-    ensures { result ≡ range_at ranges.now index }
-{
-    match ranges.get(index) {
-        Some(range) => *range,
-        None => NOWHERE,
-    }
-}
-
-/// Node `index`, or one of length 0 where there is none.
-fn node_at(nodes: &[FieldNode], index: usize) -> FieldNode
-    ensures { result ≡ node_at nodes.now index }
-{
-    match nodes.get(index) {
-        Some(node) => *node,
-        None => FieldNode {
-            length: 0,
-            nulls: 0,
-        },
-    }
-}
-
-/// The buffer with the offsets, when validity is buffer `first`.
-fn offsets_at(layout: Layout, ranges: &[BufferRange], first: usize) -> BufferRange
-    requires { first + 3 < 2 ^ 64 }
-    ensures { result ≡ offsets_at layout ranges.now first }
-{
-    match layout {
-        Layout::Utf8 { .. } | Layout::Binary { .. } | Layout::List { .. } => {
-            range_at(ranges, first + 1)
-        }
-        _ => NOWHERE,
-    }
-}
-
-/// The buffer with the values, when validity is buffer `first`.
-fn values_at(layout: Layout, ranges: &[BufferRange], first: usize) -> BufferRange
-    requires { first + 3 < 2 ^ 64 }
-    ensures { result ≡ values_at layout ranges.now first }
-{
-    match layout {
-        Layout::Utf8 { .. } | Layout::Binary { .. } => range_at(ranges, first + 2),
-        Layout::List { .. } | Layout::Struct => NOWHERE,
-        _ => range_at(ranges, first + 1),
-    }
-}
-
-fn data_at(
-    nodes: &[FieldNode],
-    ranges: &[BufferRange],
-    at: &ArrayCursor,
-    layout: Layout,
-    dictionary: Option<DictionaryValues>,
-) -> ArrayData
-    requires { at.now.range + 3 < 2 ^ 64 }
-    ensures { result ≡ with_dictionary dictionary (data_at nodes.now ranges.now at.now.node at.now.range layout) }
-{
-    let node = node_at(nodes, at.node);
-    ArrayData {
-        layout,
-        dictionary,
-        len: node.length,
-        nulls: node.nulls,
-        validity: range_at(ranges, at.range),
-        offsets: offsets_at(layout, ranges, at.range),
-        values: values_at(layout, ranges, at.range),
-    }
-}
+use values::ColType;
 
 /// The values that a field's dictionary has now, if it has one.
 fn dictionary_values(
@@ -147,7 +59,7 @@ fn place(
 {
     let layout = field.slot_layout();
     let dictionary = dictionary_values(dicts, field.encoding, &field.stored)?;
-    let own = data_at(nodes, ranges, at, layout, dictionary);
+    let own = array_at(nodes, ranges, at, layout, dictionary);
     at.node += 1;
     at.range += own_ranges(layout);
     let children = place_all(alloc, &field.children, nodes, ranges, dicts, at)?;
@@ -206,7 +118,7 @@ pub fn place_values(alloc: Global, stored: &ColType, header: &BatchHeader) -> Ar
     ensures { result ≡ values_array stored.now header.now }
 {
     let at = ArrayCursor { node: 0, range: 0 };
-    let own = data_at(&header.nodes, &header.ranges, &at, stored.layout(), None);
+    let own = array_at(&header.nodes, &header.ranges, &at, stored.layout(), None);
     Array {
         own,
         children: Vec::new(alloc),

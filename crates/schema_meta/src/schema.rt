@@ -7,7 +7,7 @@ ghost use Rattle.schema_meta.specs.Schema.{columns_of, endianness_of, schema_of}
 use crate::count::count;
 use crate::field::{Field, named_fields};
 use crate::fields::read_fields;
-use crate::slot::slots_of;
+use crate::null_weight::null_weights_of;
 use crate::value_types::are_consistent;
 use field_types::schema_fbs::{LITTLE_ENDIAN, SCHEMA_ENDIANNESS, SCHEMA_FIELDS};
 use field_types::{read_short, readable};
@@ -60,7 +60,7 @@ fn read_columns(alloc: Global, columns: &VectorRef) -> Result<Vec<Field>, Stream
         return Err(StreamFault::TooManyFields);
     };
     let fields = read_fields(alloc, columns, MAX_DEPTH)?;
-    let Some(_) = slots_of(&fields) else {
+    let Some(_) = null_weights_of(&fields) else {
         return Err(StreamFault::BadType);
     };
     if !are_consistent(&fields) {

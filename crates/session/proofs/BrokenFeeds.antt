@@ -27,7 +27,7 @@ use Rattle.std.proofs.Common.{
 use Rattle.std.specs.Prelude.{slice_get, slice_set}
 use Rattle.std.proofs.lemmas.Option.{slice_get-map, same_Some, none-some}
 use Rattle.std.specs.Option.{option_map}
-use Rattle.values.specs.Reading.{Reading, Stands}
+use Rattle.values.specs.Reading.{FailsWith, Reading}
 use Rattle.values.specs.declared.faults.StreamFault.{StreamFault}
 use Rattle.stream_writer.specs.Sinks.{Sunk}
 use Rattle.feed.specs.Events.{Event as Message, Given, batch, dictionary, ended, schema}
@@ -382,6 +382,6 @@ breaks-in-both laws conf streams steps others replies answers sinks after sinks_
           faults-break laws conf streams others answers sinks_too other after_too run_too k d fs there_too e whole
       by_ending (Ok st) e (inl h) =
           absurd
-          (subst (λ x. Stands x h.0) e
+          (subst (λ x. FailsWith x h.0) e
           (push-faults-are-told laws conf streams steps replies sinks new after run k h.0 h.1))
       by_ending (Ok st) e (inr h) = by_end h.1.0 h.1.1 (m.asked (asks h.0))

@@ -42,7 +42,7 @@ use Rattle.row_keys.specs.TableChanges.{CanGoBack, IsChangeOf, Makes, back}
 use Rattle.row_keys.specs.declared.table_change.TableChange.{TableChange}
 use Rattle.session.specs.Shows.{AreWorld, CanUndo, HoldsBack, ShowsPast, before}
 use Rattle.session.specs.declared.undo.UndoRecord.{UndoRecord}
-use Rattle.upkeep.specs.StoreLaws.{length_placed, rows_kept, rows_placed, rows_restored, set_mapped}
+use Rattle.upkeep.specs.StoreLaws.{length_placed, rows_kept, rows_located, rows_restored, set_mapped}
 
 pub holds_world :
     (tables : List Table) (rows : Rows) (rs : List UndoRecord) (es : List Edit) → HoldsBack tables rows rs es
@@ -207,7 +207,7 @@ pub edit_made :
     × HoldsBack tables (slice_set old e.table new) (record { table = e.table; change = c } ∷ rs) (e ∷ past.edits)
 edit_made tables e old new rs past c below made kind shown =
     let held : AreWorld tables old past.edits = holds_world tables old rs past.edits shown.holds in
-    let there : rows_at (slice_set old e.table new) e.table ≡ new = rows_placed old e.table new below in
+    let there : rows_at (slice_set old e.table new) e.table ≡ new = rows_located old e.table new below in
     let many : length (slice_set old e.table new) ≡ length old = length_placed old e.table new in
     let can : CanGoBack (table_at tables e.table) c (rows_at (slice_set old e.table new) e.table) =
     subst (λ (slots : List Slot). CanGoBack (table_at tables e.table) c slots) (sym there) made.2 in (

@@ -4,7 +4,7 @@ use Rattle.std.specs.Prelude.{◌==◌, slice_get, slice_set}
 use Rattle.std.proofs.lemmas.Bool.{eqb-true, eqb-false}
 use Rattle.std.proofs.lemmas.Option.{same_Some, none-some}
 use Rattle.std.specs.Io.KnownBytes.{Appends}
-use Rattle.values.specs.Reading.{IsValid, Reading, Stands}
+use Rattle.values.specs.Reading.{FailsWith, IsValid, Reading}
 use Rattle.values.specs.StreamCauses.{cause_of as cause_named}
 use Rattle.values.specs.declared.causes.Cause.{Cause}
 use Rattle.values.specs.declared.causes.Cause.TheVariants as cause
@@ -249,7 +249,7 @@ pub record Goes (conf : Config) (ends : ℕ → Reading FeedState) (st : Step) (
       ≡ replay conf marks messages_left (record { past = t.past; bytes = bytes_left })
   pub now : (k : ℕ) (f : StreamFault) → Breaks conf k f st re → MayBreak (ends k) f
   pub well : (k : ℕ) → EndsWell conf k st re → (f : StreamFault) → MayBreak (ends k) f → ⊥
-  pub pushes : (k : ℕ) (f : StreamFault) → BreaksByPush conf k f st re → Stands (ends k) f
+  pub pushes : (k : ℕ) (f : StreamFault) → BreaksByPush conf k f st re → FailsWith (ends k) f
   pub follows : Follows (role_at conf) ends messages_left (left_after conf streams st re) t.channels
   pub took : Took bytes_left before ls
 
@@ -304,7 +304,7 @@ no-fault tables past used kind (Some e) f h = by_unfit (unfit_in tables past e) 
   by_unfit None g = g
   by_unfit (Some u) g = unfit-stream u f g
 
-pub faulty : (s : FeedState) (piece : List ℕ) (f : StreamFault) → IsOther (cause_named f) → Gives s piece (Err f) → Stands
+pub faulty : (s : FeedState) (piece : List ℕ) (f : StreamFault) → IsOther (cause_named f) → Gives s piece (Err f) → FailsWith
     (gives s piece) f
 unfolding Gives
 faulty s piece fault.Memory ok may = absurd ok
@@ -339,7 +339,7 @@ pub over-end : (laws : FeedLaws) (end : Reading FeedState) (fed : FeedState) (by
 over-end laws end fed bytes none e = sym e ∙ ap (λ ys. (transcript fed ys).end) none ∙ ap (λ x. x.end)
     (tells-none laws fed)
 
-pub valid-stands : {X : Type 0} (m : Reading X) (f : StreamFault) → IsValid m → Stands m f → ⊥
+pub valid-stands : {X : Type 0} (m : Reading X) (f : StreamFault) → IsValid m → FailsWith m f → ⊥
 valid-stands (Ok x) f good stands = stands
 valid-stands (Err fs) f good stands = good
 

@@ -3,7 +3,7 @@ use Rattle.std.proofs.Common.{◌≡◌, ◌⊎◌, inl, inr, ℕ, suc, true, Op
 use Rattle.std.specs.Prelude.{All, slice_get}
 use Rattle.std.specs.Option.{option_map}
 use Rattle.std.proofs.lemmas.Option.{slice_get-map, same_Some, none-some}
-use Rattle.values.specs.Reading.{Faults, Reading, Stands}
+use Rattle.values.specs.Reading.{FailsWith, Faults, Reading}
 use Rattle.values.specs.declared.faults.StreamFault.{StreamFault}
 use Rattle.stream_writer.specs.Sinks.{Sunk}
 use Rattle.feed.specs.Events.{Event as Message}
@@ -30,7 +30,7 @@ pub record Replayed (conf : Config) (left : Left) (new : State) (before after : 
   pub stands : (k : ℕ) (c : Channel) → slice_get new.channels k ≡ Some c → Stand (ends k) c.fed
       (left_at_end conf streams steps replies k)
   pub faults : (k : ℕ) (f : StreamFault) → Broke conf k f steps replies → MayBreak (ends k) f
-  pub pushes : (k : ℕ) (f : StreamFault) → BrokeByPush conf k f steps replies → Stands (ends k) f
+  pub pushes : (k : ℕ) (f : StreamFault) → BrokeByPush conf k f steps replies → FailsWith (ends k) f
   pub well : (k : ℕ) → EndedWell conf k steps replies → (f : StreamFault) → MayBreak (ends k) f → ⊥
   pub past : new.past ≡ left.past
   pub took : Took left.bytes before after
@@ -73,8 +73,8 @@ run-goes laws conf (st ∷ steps)
       by_time k f g r (inr h) = r k f h
 
       by_push : (k : ℕ) (f : StreamFault) → Goes conf ends st re messages streams bytes before s run.0 run.1
-          → ((j : ℕ) (c : StreamFault) → BrokeByPush conf j c steps replies → Stands (ends j) c)
-          → BreaksByPush conf k f st re ⊎ BrokeByPush conf k f steps replies → Stands (ends k) f
+          → ((j : ℕ) (c : StreamFault) → BrokeByPush conf j c steps replies → FailsWith (ends j) c)
+          → BreaksByPush conf k f st re ⊎ BrokeByPush conf k f steps replies → FailsWith (ends k) f
       by_push k f g r (inl h) = g.pushes k f h
       by_push k f g r (inr h) = r k f h
 

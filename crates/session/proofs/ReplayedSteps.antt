@@ -4,7 +4,7 @@ use Rattle.std.specs.Prelude.{◌==◌, slice_get, slice_set}
 use Rattle.std.proofs.lemmas.Option.{same_Some}
 use Rattle.std.proofs.Math.Seq.{take-length, drop-append_seam}
 use Rattle.std.specs.Io.KnownBytes.{Appends}
-use Rattle.values.specs.Reading.{IsAmong, Faults, Reading, Stands}
+use Rattle.values.specs.Reading.{IsAmong, Faults, Reading, FailsWith}
 use Rattle.values.specs.StreamCauses.{cause_of as cause_named}
 use Rattle.values.specs.declared.causes.Cause.TheVariants as cause
 use Rattle.values.specs.declared.faults.StreamFault.{StreamFault}
@@ -98,18 +98,18 @@ module _ (laws : FeedLaws) (conf : Config) (ends : ℕ → Reading FeedState) (m
               (λ a. drop (used_of a) (streams (place conf name))) answers ∙ begins.1))
               (some-length b (bs ++ begins.0))
 
-          stands-told : (fs : Faults) → gives c.fed (b ∷ bs) ≡ Err fs → IsAmong fs f → Stands (ends (place conf name)) f
+          stands-told : (fs : Faults) → gives c.fed (b ∷ bs) ≡ Err fs → IsAmong fs f → FailsWith (ends (place conf name)) f
           stands-told fs at among = by_stand (follows (place conf name) c there).3 where
             by_stand : Stand (ends (place conf name)) c.fed (streams (place conf name))
-                → Stands (ends (place conf name)) f
+                → FailsWith (ends (place conf name)) f
             by_stand (going e) =
-                subst (λ x. Stands x f)
+                subst (λ x. FailsWith x f)
                 (sym (ap (λ ys. (transcript c.fed ys).end) begins.1 ∙ ap (λ x. x.end)
                 (tells-fault laws c.fed b bs begins.0 fs at)) ∙ e) among
             by_stand (stuck broken some) = absurd (true-false (is_broken c.fed.condition) broken whole)
             by_stand (over d e none g) = absurd (none-there b (bs ++ begins.0) (sym none ∙ begins.1))
 
-          by_gives : (r : Reading Given) → gives c.fed (b ∷ bs) ≡ r → Stands r f → Goes conf ends (step.Push name piece)
+          by_gives : (r : Reading Given) → gives c.fed (b ∷ bs) ≡ r → FailsWith r f → Goes conf ends (step.Push name piece)
               (reply.Push answer) messages streams bytes before s t ls
           by_gives (Ok g) at stands = absurd stands
           by_gives (Err fs) at stands = record {
@@ -128,8 +128,8 @@ module _ (laws : FeedLaws) (conf : Config) (ends : ℕ → Reading FeedState) (m
                 subst (λ i. MayBreak (ends i) g) h.0 (subst (λ x. MayBreak (ends (place conf name)) x) same
                 (heir f (subst (λ x. MayBreak x f) (sym ending) stands)));
             well = λ j h f m. h;
-            pushes = λ j g h. subst (λ i. Stands (ends i) g) h.0
-                (subst (λ x. Stands (ends (place conf name)) x) (same-stream f g (subst (λ a. IsFault a g) answers h.1))
+            pushes = λ j g h. subst (λ i. FailsWith (ends i) g) h.0
+                (subst (λ x. FailsWith (ends (place conf name)) x) (same-stream f g (subst (λ a. IsFault a g) answers h.1))
                 (stands-told fs at stands));
             follows = subst (λ x. Follows (role_at conf) ends messages
                 (put_at (place conf name) (drop (used_of answer) (streams (place conf name))) streams) x.channels)

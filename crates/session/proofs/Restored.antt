@@ -11,7 +11,7 @@ use Rattle.row_keys.specs.Slots.{
   emptied,
   last_numbers,
   put_back,
-  taken_back,
+  reverted,
 }
 use Rattle.row_keys.proofs.Emptied.{
   IsOff,
@@ -23,9 +23,9 @@ use Rattle.row_keys.proofs.Emptied.{
   can_take_emptied,
   length_emptied,
   off_put_back,
-  off_taken_back,
+  off_reverted,
   out_before,
-  out_untaken_back,
+  out_unreverted,
   put_back_emptied,
   taken_emptied,
 }
@@ -43,7 +43,7 @@ can_go_emptied t (Put k replaced) slots n spares off can =
     let Q : ℕ → Type 0 = λ l. CanRetract (range_with_len (l - k) k) (emptied slots n) in (
       can_take_emptied k slots n can.0,
       subst P (sym (taken_emptied k slots n))
-          (can_put_emptied t replaced.items (taken_back k slots) n spares (off_taken_back k slots n off) can.1),
+          (can_put_emptied t replaced.items (reverted k slots) n spares (off_reverted k slots n off) can.1),
       subst Q (sym (length_emptied slots n)) (can_retract_emptied (last_numbers k slots) slots n off can.2),
     )
 
@@ -54,15 +54,15 @@ back_emptied (Appended k) slots n spares = taken_emptied k slots n
 back_emptied (Retracted ns) slots n spares = put_back_emptied ns.items slots n spares
 back_emptied (Put k replaced) slots n spares =
     ap (λ xs. put_back replaced.items xs) (taken_emptied k slots n)
-    ∙ put_back_emptied replaced.items (taken_back k slots) n spares
+    ∙ put_back_emptied replaced.items (reverted k slots) n spares
 
 -- and it still isn't live.
 pub off_back : (c : TableChange) (slots : List Slot) (n : ℕ) → Spares n (restores c) → IsOff slots n
     → IsOff (back c slots) n
-off_back (Appended k) slots n spares off = off_taken_back k slots n off
+off_back (Appended k) slots n spares off = off_reverted k slots n off
 off_back (Retracted ns) slots n spares off = off_put_back ns.items slots n spares off
 off_back (Put k replaced) slots n spares off =
-    off_put_back replaced.items (taken_back k slots) n spares (off_taken_back k slots n off)
+    off_put_back replaced.items (reverted k slots) n spares (off_reverted k slots n off)
 
 -- Those aren't live that it can bring back.
 pub restored_out : (t : Table) (c : TableChange) (slots : List Slot) → CanGoBack t c slots → AllOut (restores c) slots
@@ -70,15 +70,15 @@ unfolding CanPutBack
 restored_out t (Appended k) slots can = tt
 restored_out t (Retracted ns) slots can = all_out t ns.items slots can.0
 restored_out t (Put k replaced) slots can =
-    all_untaken k replaced.items slots (all_out t replaced.items (taken_back k slots) can.1.0)
+    all_untaken k replaced.items slots (all_out t replaced.items (reverted k slots) can.1.0)
 
 -- What isn't live once it is taken back it doesn't bring back, and that wasn't live before.
 pub out_changed : (t : Table) (c : TableChange) (slots : List Slot) (n : ℕ) → CanGoBack t c slots
     → IsOut (back c slots) n → IsOut slots n × Spares n (restores c)
 unfolding CanPutBack
-out_changed t (Appended k) slots n can out = (out_untaken_back k slots n out, tt)
+out_changed t (Appended k) slots n can out = (out_unreverted k slots n out, tt)
 out_changed t (Retracted ns) slots n can out = out_before t ns.items slots n can.0 out
 out_changed t (Put k replaced) slots n can out =
-    let before : IsOut (taken_back k slots) n × Spares n replaced.items =
-    out_before t replaced.items (taken_back k slots) n can.1.0 out in
-    (out_untaken_back k slots n before.0, before.1)
+    let before : IsOut (reverted k slots) n × Spares n replaced.items =
+    out_before t replaced.items (reverted k slots) n can.1.0 out in
+    (out_unreverted k slots n before.0, before.1)

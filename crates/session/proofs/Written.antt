@@ -28,12 +28,12 @@ use Rattle.std.proofs.Common.{
 use Rattle.std.proofs.lemmas.List.Elements.{All-weaker}
 use Rattle.values.specs.Coded.{AreCoded}
 use Rattle.values.specs.Datum.{Datum}
-use Rattle.values.specs.Layouts.{slot}
-use Rattle.values.specs.Limits.{max_slot}
+use Rattle.values.specs.Layouts.{null_weight}
+use Rattle.values.specs.Limits.{max_null_weight}
 use Rattle.values.specs.Logical.{NamedType, trees_of}
 use Rattle.values.specs.Rose.{Rose, node, Roses, none, more, kids_of}
 use Rattle.values.specs.declared.layout.Layout.{Layout}
-use Rattle.schema_meta.specs.FieldLayouts.{are_within_slot, is_within_slot}
+use Rattle.schema_meta.specs.FieldLayouts.{null_weight_fits, null_weights_fit}
 use Rattle.schema_meta.specs.SchemaLaw.{AreNamed}
 use Rattle.schema_meta.specs.SchemaTree as written
 use Rattle.stream_writer.specs.RoundTrip.{CodedMeansItsTable}
@@ -122,20 +122,20 @@ stream_is tables rows v fields coded shown some named same_coded same =
     (sym (contents_there rows 0 some))
 
 mutual
-  within_slot : (t : Rose Layout) → IsSlim t → is_within_slot t ≡ true
-  within_slot (node l kids) h =
-      ap₂ (λ a b. a && b) (le-leb (slot (node l kids)) max_slot h.0) (all_within_slot kids h.1)
+  null_weight_within : (t : Rose Layout) → IsSlim t → null_weight_fits t ≡ true
+  null_weight_within (node l kids) h =
+      ap₂ (λ a b. a && b) (le-leb (null_weight (node l kids)) max_null_weight h.0) (all_null_weights_fit kids h.1)
 
-  all_within_slot : (ts : Roses Layout) → AreSlim ts → are_within_slot ts ≡ true
-  all_within_slot none h = refl
-  all_within_slot (more t ts) h = ap₂ (λ a b. a && b) (within_slot t h.0) (all_within_slot ts h.1)
+  all_null_weights_fit : (ts : Roses Layout) → AreSlim ts → null_weights_fit ts ≡ true
+  all_null_weights_fit none h = refl
+  all_null_weights_fit (more t ts) h = ap₂ (λ a b. a && b) (null_weight_within t h.0) (all_null_weights_fit ts h.1)
 
 columns_named : (fields : List (Rose NamedType)) → AreColumns fields → AreNamed fields
 columns_named fields own = record {
   logical = own.logical;
   layouts = own.layouts;
   shallow = own.shallow;
-  within_slot = all_within_slot (trees_of (kids_of fields)) own.slim;
+  null_weight_within = all_null_weights_fit (trees_of (kids_of fields)) own.slim;
 }
 
 pub on_ok : {X E : Type 0} (r : Result X E) (P : Type 0) → P → OnOk r P

@@ -26,7 +26,7 @@ use Rattle.std.specs.Prelude.{
   slice_get,
 }
 use Rattle.std.specs.Io.KnownBytes.{Appends}
-use Rattle.values.specs.Reading.{Faults, IsAmong, Reading, Stands}
+use Rattle.values.specs.Reading.{FailsWith, Faults, IsAmong, Reading}
 use Rattle.values.specs.StreamCauses.{cause_of as cause_named}
 use Rattle.values.specs.declared.causes.Cause.{Cause}
 use Rattle.values.specs.declared.causes.Cause.TheVariants as cause
@@ -364,7 +364,7 @@ PushFaultsAreReported =
     (after : List Sunk)
     → IsRunOn conf streams steps replies sinks new after
     → (k : ℕ) (f : StreamFault) → BrokeByPush conf k f steps replies
-    → Stands (transcript_at conf streams k).end f
+    → FailsWith (transcript_at conf streams k).end f
 
 -- the feed k is asked to finish
 abbrev pub AsksNow : Config → ℕ → Step → Type 0

@@ -18,11 +18,11 @@ ghost use Rattle.upkeep.specs.ViewStates.{width_in};
 ghost use Rattle.upkeep.specs.ViewedRows.{IsViewed, ShowsView};
 ghost use Rattle.session.specs.WrittenViews.{IsReadBack, stream_at};
 
-use body_writer::PlacedRows;
+use body_writer::LocatedRows;
 use row_keys::Visits;
 use std::alloc::Global;
 use stream_writer::{
-    JoinedRows, Sink, WriteFault, coded_law, write_coded, write_places, write_ranges,
+    JoinedRows, Sink, WriteFault, coded_law, write_coded, write_locations, write_ranges,
 };
 use upkeep::{JoinedColumns, LiveTables, Shown, StoredColumns, are_many};
 use values::Schema;
@@ -54,13 +54,13 @@ fn write_scattered<S: Sink>(
     ensures { Writes (S.sunk sink.old) (S.sunk sink.new) result (canon schema.now.fields.items
         (picked_rows columns.now (map (row_of (main_slots tables.now.stores)) visits))) }
 {
-    let found = tables.places(visits)?;
-    let main = PlacedRows {
+    let found = tables.locations(visits)?;
+    let main = LocatedRows {
         batches: &found.batches,
-        places: &found.places,
+        locations: &found.locations,
     };
     let rows = JoinedRows::alone(tables.width(), main);
-    write_places(alloc, sink, schema, columns, &rows)
+    write_locations(alloc, sink, schema, columns, &rows)
 }
 
 /// Writes the canonical stream of columns of the main table from where they are stored, and returns its length in
@@ -113,20 +113,20 @@ fn write_joined<S: Sink>(
         table,
         side_numbers,
     } = joined;
-    let main = tables.places(visits)?;
-    let side = tables.places_if(table, &side_numbers)?;
+    let main = tables.locations(visits)?;
+    let side = tables.locations_if(table, &side_numbers)?;
     let rows = JoinedRows {
         width: tables.width(),
-        main: PlacedRows {
+        main: LocatedRows {
             batches: &main.batches,
-            places: &main.places,
+            locations: &main.locations,
         },
-        side: PlacedRows {
+        side: LocatedRows {
             batches: &side.batches,
-            places: &side.places,
+            locations: &side.locations,
         },
     };
-    write_places(alloc, sink, schema, &columns, &rows)
+    write_locations(alloc, sink, schema, &columns, &rows)
 }
 
 /// Writes the canonical stream of what the view at this place shows, and returns its length in bytes.

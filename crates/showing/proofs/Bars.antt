@@ -34,8 +34,8 @@ use Rattle.showing.specs.Shown.{cell_in}
 use Rattle.showing.specs.Tables.{
   IsHead,
   IsLine,
+  PaddedCell,
   PutsSlot,
-  Slot,
   Writes,
   before,
   behind,
@@ -50,16 +50,16 @@ use Rattle.showing.specs.Tables.{
 use Rattle.showing.proofs.Lists.{drop-step}
 
 -- so far written: with what is right for the rest of the line, the whole is right
-pub record Begun (a b : Option (List ℕ)) (led : ℕ) (bar : List ℕ) (slots : List Slot) (All : List ℕ → Type 0) : Type 0 where
+pub record Begun (a b : Option (List ℕ)) (led : ℕ) (bar : List ℕ) (slots : List PaddedCell) (All : List ℕ → Type 0) : Type 0 where
   pub done : List ℕ
   pub wrote : Appends a b done
   pub whole : (rest : List ℕ) → IsLine led bar slots rest → All (done ++ rest)
 
-pub begun-all : (a : Option (List ℕ)) (slots : List Slot) → Begun a a 0 [] slots (IsLine 0 [] slots)
+pub begun-all : (a : Option (List ℕ)) (slots : List PaddedCell) → Begun a a 0 [] slots (IsLine 0 [] slots)
 begun-all a slots = record { done = []; wrote = Appends-nil a; whole = λ rest is. is }
 
 pub begun-more :
-    (a b c d e : Option (List ℕ)) (led n : ℕ) (bar : List ℕ) (slots rest : List Slot) (s : Slot)
+    (a b c d e : Option (List ℕ)) (led n : ℕ) (bar : List ℕ) (slots rest : List PaddedCell) (s : PaddedCell)
     (All : List ℕ → Type 0)
     → Begun a b led bar slots All → Appends b c (spaces led) → Appends c d bar → PutsSlot d e s n → slots ≡ s ∷ rest
     → Begun a e n (codes " | ") rest All
@@ -84,7 +84,7 @@ begun-more a b c d e led n bar slots rest s All so gap line put first =
     }
 
 pub begun-whole :
-    (a b c : Option (List ℕ)) (led : ℕ) (bar : List ℕ) (slots : List Slot) (All : List ℕ → Type 0)
+    (a b c : Option (List ℕ)) (led : ℕ) (bar : List ℕ) (slots : List PaddedCell) (All : List ℕ → Type 0)
     → Begun a b led bar slots All → slots ≡ [] → Appends b c (codes "\n")
     → Writes a c All
 begun-whole a b c led bar slots All so none last = (
@@ -94,7 +94,7 @@ begun-whole a b c led bar slots All so none last = (
 )
 
 pub begun-end :
-    {E : Type 0} (r : Result (Unit {0}) E) (a b c : Option (List ℕ)) (led : ℕ) (bar : List ℕ) (slots : List Slot)
+    {E : Type 0} (r : Result (Unit {0}) E) (a b c : Option (List ℕ)) (led : ℕ) (bar : List ℕ) (slots : List PaddedCell)
     (All : List ℕ → Type 0)
     → Begun a b led bar slots All → slots ≡ [] → OnOk r (Appends b c (codes "\n"))
     → OnOk r (Writes a c All)
@@ -103,7 +103,7 @@ begun-end (Err e) a b c led bar slots All so none last = tt
 
 -- the names, and then the dashes
 pub head-end :
-    {E : Type 0} (r : Result (Unit {0}) E) (a b c d : Option (List ℕ)) (led : ℕ) (bar : List ℕ) (slots : List Slot)
+    {E : Type 0} (r : Result (Unit {0}) E) (a b c d : Option (List ℕ)) (led : ℕ) (bar : List ℕ) (slots : List PaddedCell)
     (ws vs : List ℕ) (fs : List (Rose Entry))
     → Begun a b led bar slots (IsLine 0 [] (name_slots ws 0 fs)) → slots ≡ [] → Appends b c (codes "\n")
     → OnOk r (Appends c d (rule vs)) → vs ≡ ws

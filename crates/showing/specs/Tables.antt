@@ -73,24 +73,24 @@ abbrev pub spaces : ℕ → List ℕ
 spaces n = replicate n 32
 
 -- a text in a column of this width
-pub record Slot : Type 0 where
+pub record PaddedCell : Type 0 where
   pub at_right : Bool
   pub width : ℕ
   pub text : List ℕ
 
-abbrev pub gap : Slot → ℕ
+abbrev pub gap : PaddedCell → ℕ
 gap s = s.width - width_of s.text
 
 -- how many spaces stand before a text that fills its column, and behind it where another column follows
-abbrev pub before : Bool → Slot → ℕ
+abbrev pub before : Bool → PaddedCell → ℕ
 before fills s = if fills then (if s.at_right then gap s else 0) else 0
 
-abbrev pub behind : Bool → Slot → ℕ
+abbrev pub behind : Bool → PaddedCell → ℕ
 behind fills s = if fills then (if s.at_right then 0 else gap s) else 0
 
 -- The texts of a line, with a bar between each two; `led` spaces and a bar stand before the first. Each is filled up to
 -- the width of its column, or stands as it is.
-abbrev pub IsLine : ℕ → List ℕ → List Slot → List ℕ → Type 0
+abbrev pub IsLine : ℕ → List ℕ → List PaddedCell → List ℕ → Type 0
 IsLine led bar [] out = out ≡ codes "\n"
 IsLine led bar (s ∷ ss) out =
     (fills : Bool)
@@ -103,27 +103,27 @@ abbrev pub Writes : Option (List ℕ) → Option (List ℕ) → (List ℕ → Ty
 Writes old new Is = (out : List ℕ) × Is out × Appends old new out
 
 -- A text was written in its column, and so many spaces are to stand behind it.
-abbrev pub PutsSlot : Option (List ℕ) → Option (List ℕ) → Slot → ℕ → Type 0
+abbrev pub PutsSlot : Option (List ℕ) → Option (List ℕ) → PaddedCell → ℕ → Type 0
 PutsSlot old new s n = (fills : Bool) × Appends old new (spaces (before fills s) ++ s.text) × (n ≡ behind fills s)
 
-abbrev pub text_slot : Bool → ℕ → List ℕ → Slot
+abbrev pub text_slot : Bool → ℕ → List ℕ → PaddedCell
 text_slot at_right width t = record { at_right = at_right; width = width; text = t }
 
 -- a name in a column of this width
-abbrev pub name_slot : ℕ → Rose Entry → Slot
+abbrev pub name_slot : ℕ → Rose Entry → PaddedCell
 name_slot width f = text_slot (is_right (entry f).stored) width (visible_text (entry f).name)
 
 -- a cell in a column of this width
-abbrev pub cell_slot : ℕ → Rose Entry → Datum → Slot
+abbrev pub cell_slot : ℕ → Rose Entry → Datum → PaddedCell
 cell_slot width f d = text_slot (is_right (entry f).stored) width (cell_text f d)
 
 -- the names of columns, of which the first is number k of these widths
-abbrev pub name_slots : List ℕ → ℕ → List (Rose Entry) → List Slot
+abbrev pub name_slots : List ℕ → ℕ → List (Rose Entry) → List PaddedCell
 name_slots widths k [] = []
 name_slots widths k (f ∷ fs) = name_slot (get_or widths k 0) f ∷ name_slots widths (k + 1) fs
 
 -- the cells at one place of columns, of which the first is number k of these widths
-abbrev pub row_slots : List ℕ → ℕ → List (Rose Entry) → List CheckedColumn → ℕ → List Slot
+abbrev pub row_slots : List ℕ → ℕ → List (Rose Entry) → List CheckedColumn → ℕ → List PaddedCell
 row_slots widths k [] cs i = []
 row_slots widths k (f ∷ fs) [] i = []
 row_slots widths k (f ∷ fs) (c ∷ cs) i =

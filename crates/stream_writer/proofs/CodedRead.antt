@@ -50,7 +50,7 @@ use Rattle.dictionaries.proofs.Batches.{found-or-none, step_after}
 use Rattle.array_layout.specs.declared.array.FieldNode.{FieldNode}
 use Rattle.array_layout.specs.declared.array.BufferRange.{BufferRange}
 use Rattle.array_layout.specs.declared.array.DictionaryValues.{DictionaryValues}
-use Rattle.array_layout.specs.Placing.{data_at, placed, placed_all, ranges_in}
+use Rattle.array_layout.specs.Placing.{data_at, placed, placed_all, ranges_in, with_dictionary}
 use Rattle.array_layout.specs.Cells.{column_of}
 use Rattle.schema_meta.specs.SchemaTree.{AreColumns}
 use Rattle.values.specs.Coded.{AreAscending, AreCoded, IsTextColumn, is_coded, utf8}
@@ -58,7 +58,7 @@ use Rattle.schema_meta.specs.Coded.{own_encoding}
 use Rattle.schema_meta.specs.Dictionaries.{value_type}
 use Rattle.schema_meta.specs.Entry.{Entry}
 use Rattle.schema_meta.specs.FieldLayouts.{slot_layout, slot_layouts_below, slot_layouts_of}
-use Rattle.schema_meta.specs.Parts.{arrays_of, decoded, decoded_all, values_array, with_dictionary}
+use Rattle.schema_meta.specs.Parts.{arrays_of, decoded, decoded_all, values_array}
 use Rattle.schema_meta.specs.Rows.{columns_in, rows_of, values_of}
 use Rattle.schema_meta.specs.SchemaLaw.{coded_fields, coded_from, stored_below}
 use Rattle.schema_meta.proofs.CodedFields.{coded-has, coded-texts}
@@ -96,7 +96,7 @@ use Rattle.stream_writer.proofs.Decoded.{
   or-right,
 }
 use Rattle.stream_writer.proofs.IndexedRows.{TextTrees, indexed-batch, text-cell}
-use Rattle.stream_writer.proofs.RowsRead.{batch-read, columns_from, rows-back}
+use Rattle.body_writer.proofs.RowsReadBack.{batch-read, columns_from, rows-back}
 
 -- layouts
 
@@ -288,7 +288,7 @@ rows-coded values fs coded rows c b of =
     let own = indexed-batch coded (trees fs) rows (coded-trees coded fs c) b in
     let read =
     columns-back coded 0 fs values rows (body_bytes ls now) (body_nodes ls now) (body_ranges ls now) 0 0
-    (coded-texts coded fs c) b.layouts of (all-texts fs coded rows c b) (batch-read ls now own) in
+    (coded-texts coded fs c) b.layouts of (all-texts fs coded rows c b) (batch-read ls now own).0 in
     let many : length now ≡ length rows =
     length-map rows (indexed_from coded (λ j. values_at j rows) 0) in
     rw (coded-slots coded fs, read, many, rows-back (trees fs) rows b.held) refl
@@ -368,7 +368,7 @@ pub values-read :
     → values_of fields (dictionary_head j values) (values_body values) ≡ Ok (map text values)
 unfolding values_of values_array
 values-read fields j values type b =
-    rw type ((batch-read text_layouts (value_rows values) b).0 ∙ ap (λ cs. Ok cs) (values-cells values))
+    rw type ((batch-read text_layouts (value_rows values) b).0.0 ∙ ap (λ cs. Ok cs) (values-cells values))
 
 -- positions
 

@@ -36,10 +36,9 @@ use Rattle.array_layout.specs.declared.array.BufferRange.{BufferRange}
 use Rattle.array_layout.specs.declared.array.DictionaryValues.{DictionaryValues}
 use Rattle.array_layout.specs.declared.array.ArrayData.{ArrayData}
 use Rattle.array_layout.specs.Buffers.{is_null, number_at}
-use Rattle.array_layout.specs.Placing.{bytes_of, data_at, placed}
+use Rattle.array_layout.specs.Placing.{bytes_of, data_at, placed, with_dictionary}
 use Rattle.array_layout.specs.Sound.{faults_in, own_faults}
 use Rattle.array_layout.specs.Cells.{cell, cell_by, cells, column_of, indexed, len_of}
-use Rattle.schema_meta.specs.Parts.{with_dictionary}
 use Rattle.stream_writer.specs.Coding.{AreTextCells, add_text, index_in, index_layout, texts_after}
 
 -- what a cell of indices stands for

@@ -40,13 +40,13 @@ use Rattle.std.proofs.lemmas.Option.{none-some, same_Some}
 use denote.Ref.{Bor}
 use Rattle.values.specs.Datum.{Datum, null}
 use Rattle.body_writer.specs.Batch.{row_cell, row_cells}
-use Rattle.body_writer.specs.Places.{AreFound, ArePlaced, HasRow, HaveColumn, IsPlaced, IsRowAt, column_at, place_row, row_in, rows_at}
+use Rattle.body_writer.specs.Locations.{AreFound, AreLocated, HasRow, HaveColumn, IsLocated, IsRowAt, column_at, located_row, row_in, rows_at}
 use Rattle.body_writer.specs.RowRanges.{cells_in}
 use Rattle.body_writer.specs.Slots.{part}
 use Rattle.body_writer.specs.declared.from_columns.batch.Batch.{Batch}
-use Rattle.body_writer.specs.declared.from_places.place.PlacedRows.{PlacedRows}
-use Rattle.body_writer.specs.declared.from_places.place.RowPlace.{RowPlace}
-use Rattle.body_writer.specs.declared.from_places.plain.BatchArrays.{BatchArrays}
+use Rattle.body_writer.specs.declared.from_locations.location.LocatedRows.{LocatedRows}
+use Rattle.body_writer.specs.declared.from_locations.location.RowLocation.{RowLocation}
+use Rattle.body_writer.specs.declared.from_locations.plain.BatchArrays.{BatchArrays}
 use Rattle.body_writer.proofs.Cells.{part-listed}
 use Rattle.body_writer.specs.Picked.{beside}
 use Rattle.stream_writer.specs.JoinedRows.{AreArrays, HaveAlone, HaveJoined, IsFirst, IsPart, IsRest, half, joined_rows, place_of}
@@ -111,38 +111,38 @@ side-cells w j (m ∷ ms) (s ∷ ss) high wide many =
 
 -- the main rows
 
-there-placed : (n : ℕ) (bs : List (Bor Batch)) (p : RowPlace) → IsRowAt n bs p → IsPlaced n bs p
+there-placed : (n : ℕ) (bs : List (Bor Batch)) (p : RowLocation) → IsRowAt n bs p → IsLocated n bs p
 there-placed n bs p is batch there =
     subst (λ (b : Bor Batch). HasRow n p.row b.now) (same_Some is.batch batch (sym is.there ∙ there)) is.row
 
-there-long : (n : ℕ) (bs : List (Bor Batch)) (p : RowPlace) → IsRowAt n bs p → length (place_row bs p) ≡ n
+there-long : (n : ℕ) (bs : List (Bor Batch)) (p : RowLocation) → IsRowAt n bs p → length (located_row bs p) ≡ n
 there-long n bs p is =
     let cs = is.batch.now.columns.items in
     ap (λ o. length (row_in o p.row)) is.there ∙ length-map (cells_in cs) (λ c. get_or c p.row null)
     ∙ length-map cs (λ c. c.cells) ∙ is.row.sized.columns
 
-main-wide : (n : ℕ) (bs : List (Bor Batch)) (ps : List RowPlace) → All (IsRowAt n bs) ps
-    → All (λ (row : List Datum). length row ≡ n) (map (place_row bs) ps)
+main-wide : (n : ℕ) (bs : List (Bor Batch)) (ps : List RowLocation) → All (IsRowAt n bs) ps
+    → All (λ (row : List Datum). length row ≡ n) (map (located_row bs) ps)
 main-wide n bs [] all = All-nil (λ (row : List Datum). length row ≡ n)
 main-wide n bs (p ∷ ps) all =
-    All-cons (λ (row : List Datum). length row ≡ n) (place_row bs p) (map (place_row bs) ps)
+    All-cons (λ (row : List Datum). length row ≡ n) (located_row bs p) (map (located_row bs) ps)
     (there-long n bs p (All-head (IsRowAt n bs) p ps all)) (main-wide n bs ps (All-tail (IsRowAt n bs) p ps all))
 
-main-placed : (n : ℕ) (r : PlacedRows) → All (IsRowAt n r.batches.now) r.places.now → ArePlaced n r
+main-placed : (n : ℕ) (r : LocatedRows) → All (IsRowAt n r.batches.now) r.locations.now → AreLocated n r
 main-placed n r all =
-    All-weaker (IsRowAt n r.batches.now) (IsPlaced n r.batches.now) (there-placed n r.batches.now) r.places.now all
+    All-weaker (IsRowAt n r.batches.now) (IsLocated n r.batches.now) (there-placed n r.batches.now) r.locations.now all
 
-rows-many : (r : JoinedRows) → length r.side.places.now ≡ length r.main.places.now
+rows-many : (r : JoinedRows) → length r.side.locations.now ≡ length r.main.locations.now
     → length (rows_at r.side) ≡ length (rows_at r.main)
 rows-many r many =
-    length-map r.side.places.now (place_row r.side.batches.now) ∙ many
-    ∙ sym (length-map r.main.places.now (place_row r.main.batches.now))
+    length-map r.side.locations.now (located_row r.side.batches.now) ∙ many
+    ∙ sym (length-map r.main.locations.now (located_row r.main.batches.now))
 
 pub joined-column : (columns : List ℕ) (r : JoinedRows) (j : ℕ) → HaveJoined columns r
     → map (part j) (row_cells (joined_rows r)) ≡ column_at (place_of r j) (half r j)
 joined-column columns r j have =
     let many = rows-many r have.many in
-    let wide = main-wide r.width r.main.batches.now r.main.places.now have.main in
+    let wide = main-wide r.width r.main.batches.now r.main.locations.now have.main in
     elim (in-one r j) [
       | inl main ↦
           main-cells r.width j (rows_at r.main) (rows_at r.side) main.low wide many
@@ -152,7 +152,7 @@ joined-column columns r j have =
           ∙ sym (ap₂ column_at side.place side.rows)
     ]
 
-column-as : (r : JoinedRows) (j k : ℕ) (rows : PlacedRows) → half r j ≡ rows → place_of r j ≡ k → HaveColumn k rows
+column-as : (r : JoinedRows) (j k : ℕ) (rows : LocatedRows) → half r j ≡ rows → place_of r j ≡ k → HaveColumn k rows
     → HaveColumn (place_of r j) (half r j)
 column-as r j k rows same place have =
     subst (λ i. HaveColumn i (half r j)) (sym place) (subst (HaveColumn k) (sym same) have)
@@ -173,10 +173,10 @@ pub column-below : (columns : List ℕ) (r : JoinedRows) (i : ℕ) (have : HaveJ
 column-below columns r i have h = All-get_or (λ j. j < r.width + have.more) columns i 0 h have.below
 
 pub half-many : (columns : List ℕ) (r : JoinedRows) (j : ℕ) → HaveJoined columns r
-    → length (half r j).places.now ≡ length r.main.places.now
+    → length (half r j).locations.now ≡ length r.main.locations.now
 half-many columns r j have = elim (in-one r j) [
-  | inl main ↦ ap (λ (rows : PlacedRows). length rows.places.now) main.rows
-  | inr side ↦ ap (λ (rows : PlacedRows). length rows.places.now) side.rows ∙ have.many
+  | inl main ↦ ap (λ (rows : LocatedRows). length rows.locations.now) main.rows
+  | inr side ↦ ap (λ (rows : LocatedRows). length rows.locations.now) side.rows ∙ have.many
 ]
 
 -- how many there are
@@ -187,10 +187,10 @@ beside-many (m ∷ ms) [] many = absurd (omega (arith, many))
 beside-many (m ∷ ms) (s ∷ ss) many = ap suc (beside-many ms ss (omega (arith, many)))
 
 pub joined-many : (columns : List ℕ) (r : JoinedRows) → HaveJoined columns r
-    → length (joined_rows r) ≡ length r.main.places.now
+    → length (joined_rows r) ≡ length r.main.locations.now
 joined-many columns r have =
     beside-many (rows_at r.main) (rows_at r.side) (rows-many r have.many)
-    ∙ length-map r.main.places.now (place_row r.main.batches.now)
+    ∙ length-map r.main.locations.now (located_row r.main.batches.now)
 
 -- some of them
 
@@ -210,20 +210,20 @@ beside-dropped (suc n) [] ss = refl
 beside-dropped (suc n) (m ∷ ms) [] = beside-none (drop n ms)
 beside-dropped (suc n) (m ∷ ms) (s ∷ ss) = beside-dropped n ms ss
 
-rows-part : (part : List RowPlace → List RowPlace) (old new : PlacedRows) → new.batches ≡ old.batches
-    → new.places.now ≡ part old.places.now → rows_at new ≡ map (place_row old.batches.now) (part old.places.now)
-rows-part part old new batches places =
-    ap (λ (bs : Bor (List (Bor Batch))). map (place_row bs.now) new.places.now) batches
-    ∙ ap (map (place_row old.batches.now)) places
+rows-part : (part : List RowLocation → List RowLocation) (old new : LocatedRows) → new.batches ≡ old.batches
+    → new.locations.now ≡ part old.locations.now → rows_at new ≡ map (located_row old.batches.now) (part old.locations.now)
+rows-part part old new batches locations =
+    ap (λ (bs : Bor (List (Bor Batch))). map (located_row bs.now) new.locations.now) batches
+    ∙ ap (map (located_row old.batches.now)) locations
 
 pub joined-first : (n : ℕ) (old new : JoinedRows) → IsFirst n old new
     → joined_rows new ≡ take n (joined_rows old)
 joined-first n old new is =
     ap₂ beside
     (rows-part (take n) old.main new.main is.main_batches is.main
-    ∙ sym (take-map (place_row old.main.batches.now) n old.main.places.now))
+    ∙ sym (take-map (located_row old.main.batches.now) n old.main.locations.now))
     (rows-part (take n) old.side new.side is.side_batches is.side
-    ∙ sym (take-map (place_row old.side.batches.now) n old.side.places.now))
+    ∙ sym (take-map (located_row old.side.batches.now) n old.side.locations.now))
     ∙ sym (beside-taken n (rows_at old.main) (rows_at old.side))
 
 pub joined-rest : (n : ℕ) (old new : JoinedRows) → IsRest n old new
@@ -231,17 +231,17 @@ pub joined-rest : (n : ℕ) (old new : JoinedRows) → IsRest n old new
 joined-rest n old new is =
     ap₂ beside
     (rows-part (drop n) old.main new.main is.main_batches is.main
-    ∙ sym (drop-map (place_row old.main.batches.now) n old.main.places.now))
+    ∙ sym (drop-map (located_row old.main.batches.now) n old.main.locations.now))
     (rows-part (drop n) old.side new.side is.side_batches is.side
-    ∙ sym (drop-map (place_row old.side.batches.now) n old.side.places.now))
+    ∙ sym (drop-map (located_row old.side.batches.now) n old.side.locations.now))
     ∙ sym (beside-dropped n (rows_at old.main) (rows_at old.side))
 
 -- and what is known of these
 
 -- which keeps what holds of all, and takes as many of as many
-record Keeps (part : List RowPlace → List RowPlace) : Type 1 where
-  all : (P : RowPlace → Type 0) (ps : List RowPlace) → All P ps → All P (part ps)
-  many : (ps qs : List RowPlace) → length ps ≡ length qs → length (part ps) ≡ length (part qs)
+record Keeps (part : List RowLocation → List RowLocation) : Type 1 where
+  all : (P : RowLocation → Type 0) (ps : List RowLocation) → All P ps → All P (part ps)
+  many : (ps qs : List RowLocation) → length ps ≡ length qs → length (part ps) ≡ length (part qs)
 
 taken-keeps : (n : ℕ) → Keeps (take n)
 taken-keeps n = record {
@@ -261,23 +261,23 @@ dropped-keeps n = record {
       omega (arith, a, b, e);
 }
 
-placed-part : (part : List RowPlace → List RowPlace) → Keeps part → (n : ℕ) (old new : PlacedRows)
-    → new.batches ≡ old.batches → new.places.now ≡ part old.places.now → ArePlaced n old → ArePlaced n new
-placed-part part keeps n old new batches places all =
-    subst (λ (bs : Bor (List (Bor Batch))). All (IsPlaced n bs.now) new.places.now) (sym batches)
-    (subst (All (IsPlaced n old.batches.now)) (sym places)
-    (keeps.all (IsPlaced n old.batches.now) old.places.now all))
+placed-part : (part : List RowLocation → List RowLocation) → Keeps part → (n : ℕ) (old new : LocatedRows)
+    → new.batches ≡ old.batches → new.locations.now ≡ part old.locations.now → AreLocated n old → AreLocated n new
+placed-part part keeps n old new batches locations all =
+    subst (λ (bs : Bor (List (Bor Batch))). All (IsLocated n bs.now) new.locations.now) (sym batches)
+    (subst (All (IsLocated n old.batches.now)) (sym locations)
+    (keeps.all (IsLocated n old.batches.now) old.locations.now all))
 
-have-part : (part : List RowPlace → List RowPlace) → Keeps part → (columns : List ℕ) (old new : JoinedRows)
+have-part : (part : List RowLocation → List RowLocation) → Keeps part → (columns : List ℕ) (old new : JoinedRows)
     → IsPart part old new → HaveJoined columns old → HaveJoined columns new
 have-part part keeps columns old new is have =
-    let main : All (IsRowAt old.width new.main.batches.now) new.main.places.now =
-    subst (λ (bs : Bor (List (Bor Batch))). All (IsRowAt old.width bs.now) new.main.places.now) (sym is.main_batches)
+    let main : All (IsRowAt old.width new.main.batches.now) new.main.locations.now =
+    subst (λ (bs : Bor (List (Bor Batch))). All (IsRowAt old.width bs.now) new.main.locations.now) (sym is.main_batches)
     (subst (All (IsRowAt old.width old.main.batches.now)) (sym is.main)
-    (keeps.all (IsRowAt old.width old.main.batches.now) old.main.places.now have.main)) in
+    (keeps.all (IsRowAt old.width old.main.batches.now) old.main.locations.now have.main)) in
     record {
-      many = ap length is.side ∙ keeps.many old.side.places.now old.main.places.now have.many ∙ sym (ap length is.main);
-      main = subst (λ w. All (IsRowAt w new.main.batches.now) new.main.places.now) (sym is.width) main;
+      many = ap length is.side ∙ keeps.many old.side.locations.now old.main.locations.now have.many ∙ sym (ap length is.main);
+      main = subst (λ w. All (IsRowAt w new.main.batches.now) new.main.locations.now) (sym is.width) main;
       more = have.more;
       side = placed-part part keeps have.more old.side new.side is.side_batches is.side have.side;
       below = subst (λ w. All (λ j. j < w + have.more) columns) (sym is.width) have.below;
@@ -293,7 +293,7 @@ have-rest n columns old new is have = have-part (drop n) (dropped-keeps n) colum
 
 -- the arrays of some of them
 
-same-batches : (part : List RowPlace → List RowPlace) (old new : JoinedRows) (j : ℕ) → IsPart part old new
+same-batches : (part : List RowLocation → List RowLocation) (old new : JoinedRows) (j : ℕ) → IsPart part old new
     → (half old j).batches ≡ (half new j).batches
 same-batches part old new j is =
     sym (ap (λ w. (if nat_lt j w then new.main else new.side).batches) is.width ∙ by (nat_lt j old.width))
@@ -302,7 +302,7 @@ same-batches part old new j is =
     by true = is.main_batches
     by false = is.side_batches
 
-pub arrays-part : (part : List RowPlace → List RowPlace) (old new : JoinedRows) (js : List ℕ) (ss : List BatchArrays)
+pub arrays-part : (part : List RowLocation → List RowLocation) (old new : JoinedRows) (js : List ℕ) (ss : List BatchArrays)
     → IsPart part old new → AreArrays old js ss → AreArrays new js ss
 arrays-part part old new [] [] is are = tt
 arrays-part part old new [] (s ∷ ss) is are = absurd are
@@ -323,16 +323,16 @@ cell-at j [] i below = absurd (omega (arith, below))
 cell-at j (row ∷ rows) zero below = part-listed j row
 cell-at j (row ∷ rows) (suc i) below = cell-at j rows i (omega (arith, below))
 
-pub column-cell : (j : ℕ) (r : PlacedRows) (i : ℕ) (p : RowPlace) → i < length r.places.now
-    → get_or (column_at j r) i null ≡ get_or (place_row r.batches.now (get_or r.places.now i p)) j null
+pub column-cell : (j : ℕ) (r : LocatedRows) (i : ℕ) (p : RowLocation) → i < length r.locations.now
+    → get_or (column_at j r) i null ≡ get_or (located_row r.batches.now (get_or r.locations.now i p)) j null
 column-cell j r i p below =
-    let row : RowPlace → List Datum = place_row r.batches.now in
-    let many = length-map r.places.now row in
-    cell-at j (map row r.places.now) i (omega (arith, below, many))
-    ∙ ap (λ ds. get_or ds j null) (get_or-map row r.places.now i p [] below)
+    let row : RowLocation → List Datum = located_row r.batches.now in
+    let many = length-map r.locations.now row in
+    cell-at j (map row r.locations.now) i (omega (arith, below, many))
+    ∙ ap (λ ds. get_or ds j null) (get_or-map row r.locations.now i p [] below)
 
 pub joined-cell : (columns : List ℕ) (r : JoinedRows) (i j : ℕ) → HaveJoined columns r
-    → i < length r.main.places.now
+    → i < length r.main.locations.now
     → get_or (column_at (place_of r j) (half r j)) i null ≡ get_or (get_or (joined_rows r) i []) j null
 joined-cell columns r i j have below =
     let many = joined-many columns r have in
@@ -341,22 +341,22 @@ joined-cell columns r i j have below =
 
 -- rows without rows beside them
 
-pub beside-nothing : (bs : List (Bor Batch)) (ps : List RowPlace)
-    → beside (map (place_row bs) ps) (map (place_row []) ps) ≡ map (place_row bs) ps
+pub beside-nothing : (bs : List (Bor Batch)) (ps : List RowLocation)
+    → beside (map (located_row bs) ps) (map (located_row []) ps) ≡ map (located_row bs) ps
 beside-nothing bs [] = refl
 beside-nothing bs (p ∷ ps) =
-    ap₂ (λ row rows. row ∷ rows) (append-nil (place_row bs p)) (beside-nothing bs ps)
+    ap₂ (λ row rows. row ∷ rows) (append-nil (located_row bs p)) (beside-nothing bs ps)
 
-nowhere : (n : ℕ) (ps : List RowPlace) → All (IsPlaced n []) ps
-nowhere n [] = All-nil (IsPlaced n [])
-nowhere n (p ∷ ps) = All-cons (IsPlaced n []) p ps (λ b there. absurd (none-some b there)) (nowhere n ps)
+nowhere : (n : ℕ) (ps : List RowLocation) → All (IsLocated n []) ps
+nowhere n [] = All-nil (IsLocated n [])
+nowhere n (p ∷ ps) = All-cons (IsLocated n []) p ps (λ b there. absurd (none-some b there)) (nowhere n ps)
 
-pub have-alone : (columns : List ℕ) (r : JoinedRows) → r.side.batches.now ≡ [] → r.side.places ≡ r.main.places
+pub have-alone : (columns : List ℕ) (r : JoinedRows) → r.side.batches.now ≡ [] → r.side.locations ≡ r.main.locations
     → HaveAlone columns r.width r.main → HaveJoined columns r
 have-alone columns r none same have = record {
-  many = ap (λ (ps : Bor (List RowPlace)). length ps.now) same;
+  many = ap (λ (ps : Bor (List RowLocation)). length ps.now) same;
   main = have.main;
   more = 0;
-  side = subst (λ bs. All (IsPlaced 0 bs) r.side.places.now) (sym none) (nowhere 0 r.side.places.now);
+  side = subst (λ bs. All (IsLocated 0 bs) r.side.locations.now) (sym none) (nowhere 0 r.side.locations.now);
   below = All-weaker (λ j. j < r.width) (λ j. j < r.width + 0) (λ j low. omega (arith, low)) columns have.below;
 }

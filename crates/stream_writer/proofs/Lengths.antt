@@ -22,7 +22,6 @@ use Rattle.std.proofs.Common.{
   subst,
   ◌∙◌,
   arith,
-  append-nil,
 }
 use Rattle.std.specs.Prelude.{pos, if◌then◌else◌}
 use Rattle.std.proofs.lemmas.Bool.{le-leb, eq-eqb}
@@ -53,7 +52,7 @@ use Rattle.body_writer.specs.Batch.{row_cell, row_cells, body_nodes, IsBatch}
 use Rattle.body_writer.proofs.ColumnRead.{nodes-count, AreNodes-front, AreNodes-back, struct-node}
 use Rattle.body_writer.proofs.Held.{HeldEach, kids-held}
 use Rattle.body_writer.proofs.Rows.{rows-held, rows-light}
-use Rattle.body_writer.proofs.PlaceLemmas.{nodes-stand-law}
+use Rattle.body_writer.proofs.RowsReadBack.{body-nodes-stand}
 use Rattle.body_writer.proofs.WeightLemmas.{weights_each, weights-split, own-long}
 
 -- a length below 2^31, and no more nulls than slots
@@ -166,12 +165,6 @@ columns-fit j (more t ts) cs all n an =
     columns-fit (suc j) ts cs all (n + rose_size t)
     (AreNodes-back all n (rose_size t) (nodes t mine) later (nodes-count t mine) an) in
     rw (len, eq-eqb (length cs) (length cs) refl, here, rest) refl
-
-pub body-nodes-stand : (ls : Roses Layout) (rows : List (List Datum))
-    → AreNodes (body_nodes ls rows) 0 (body_nodes ls rows)
-body-nodes-stand ls rows =
-    let ns = body_nodes ls rows in
-    subst (λ (all : List FieldNode). AreNodes all 0 ns) (append-nil ns) (nodes-stand-law [] ns [])
 
 pub lengths-fit : (ls : Roses Layout) (rows : List (List Datum))
     → lengths_fit (length rows) ls (body_nodes ls rows) ≡ true

@@ -7,20 +7,20 @@ use Rattle.std.proofs.lemmas.List.Elements.{All-cons, All-get_or, All-head, All-
 use Rattle.std.proofs.lemmas.Option.{get_or_from_slice_get, slice_get_cases, slice_get_within}
 use denote.Ref.{Bor}
 use Rattle.values.specs.Datum.{Datum, items_of, null}
-use Rattle.values.specs.Layouts.{Holds, HoldsEach, slot, weight}
+use Rattle.values.specs.Layouts.{Holds, HoldsEach, null_weight, weight}
 use Rattle.values.specs.Limits.{max_cell_weight}
 use Rattle.values.specs.Rose.{Rose, kids_of}
 use Rattle.values.specs.declared.layout.Layout.{Layout}
 use Rattle.arrays.specs.Checked.{CheckedColumn}
 use Rattle.body_writer.specs.Batch.{row_cell, row_cells, row_weight}
 use Rattle.body_writer.specs.Picked.{picked, picked_rows}
-use Rattle.body_writer.specs.Places.{IsPlaced, place_row, row_in}
+use Rattle.body_writer.specs.Locations.{IsLocated, located_row, row_in}
 use Rattle.body_writer.specs.Slots.{part}
 use Rattle.body_writer.specs.declared.from_columns.batch.Batch.{Batch}
-use Rattle.body_writer.specs.declared.from_places.place.PlacedRows.{PlacedRows}
-use Rattle.body_writer.specs.declared.from_places.place.RowPlace.{RowPlace}
+use Rattle.body_writer.specs.declared.from_locations.location.LocatedRows.{LocatedRows}
+use Rattle.body_writer.specs.declared.from_locations.location.RowLocation.{RowLocation}
 use Rattle.body_writer.proofs.Cells.{part-listed}
-use Rattle.body_writer.proofs.PlacedColumns.{cell-read}
+use Rattle.body_writer.proofs.LocatedColumns.{cell-read}
 use Rattle.body_writer.proofs.WeightLemmas.{null-weight}
 use Rattle.stream_writer.specs.BatchRows.{AreLightRows, max_light_row}
 use Rattle.stream_writer.specs.JoinedRows.{HaveJoined, half, joined_rows, place_of}
@@ -59,18 +59,18 @@ first-more t j bs i most own next item at is small little here before k b below 
       (omega (arith, is, small, little))
 ]
 
-pub first-all : (t : Rose Layout) (j : ℕ) (bs : List (Bor Batch)) (i most : ℕ) → length bs ≤ i → slot t ≤ most
+pub first-all : (t : Rose Layout) (j : ℕ) (bs : List (Bor Batch)) (i most : ℕ) → length bs ≤ i → null_weight t ≤ most
     → BoundsFirst t j bs i most → BoundsColumn t j bs most
 first-all t j bs i most end least before = record {
   each = λ k b there. let inside = slice_get_within bs k b there in before k b (omega (arith, end, inside)) there;
   null = least;
 }
 
-pub bound-as : (t : Rose Layout) (j k most : ℕ) (old new : PlacedRows) → old ≡ new → j ≡ k
+pub bound-as : (t : Rose Layout) (j k most : ℕ) (old new : LocatedRows) → old ≡ new → j ≡ k
     → BoundsColumn t j old.batches.now most → BoundsColumn t k new.batches.now most
 bound-as t j k most old new rows place bound =
     subst (λ i. BoundsColumn t i new.batches.now most) place
-    (subst (λ (x : PlacedRows). BoundsColumn t j x.batches.now most) rows bound)
+    (subst (λ (x : LocatedRows). BoundsColumn t j x.batches.now most) rows bound)
 
 -- place after place
 
@@ -78,8 +78,8 @@ bound-as t j k most old new rows place bound =
 abbrev pub IsWithin : Rose Layout → ℕ → Datum → Type 0
 IsWithin t most d = Holds t d → weight t d ≤ most
 
-cell-within : (t : Rose Layout) (j n most : ℕ) (bs : List (Bor Batch)) (p : RowPlace) → BoundsColumn t j bs most → j < n
-    → IsPlaced n bs p → IsWithin t most (get_or (place_row bs p) j null)
+cell-within : (t : Rose Layout) (j n most : ℕ) (bs : List (Bor Batch)) (p : RowLocation) → BoundsColumn t j bs most → j < n
+    → IsLocated n bs p → IsWithin t most (get_or (located_row bs p) j null)
 cell-within t j n most bs p bound h placed = elim (slice_get_cases bs p.batch).1 [
   | inl inside ↦
       let batch = inside.0.now in
@@ -102,15 +102,15 @@ cell-within t j n most bs p bound h placed = elim (slice_get_cases bs p.batch).1
       subst (IsWithin t most) (sym none) (λ held. omega (arith, same, bound.null))
 ]
 
-column-within : (t : Rose Layout) (j n most : ℕ) (bs : List (Bor Batch)) (ps : List RowPlace) → BoundsColumn t j bs most
-    → j < n → All (IsPlaced n bs) ps
-    → All (IsWithin t most) (map (part j) (row_cells (map (place_row bs) ps)))
+column-within : (t : Rose Layout) (j n most : ℕ) (bs : List (Bor Batch)) (ps : List RowLocation) → BoundsColumn t j bs most
+    → j < n → All (IsLocated n bs) ps
+    → All (IsWithin t most) (map (part j) (row_cells (map (located_row bs) ps)))
 column-within t j n most bs [] bound h all = All-nil (IsWithin t most)
 column-within t j n most bs (p ∷ ps) bound h all =
-    All-cons (IsWithin t most) (part j (row_cell (place_row bs p))) (map (part j) (row_cells (map (place_row bs) ps)))
-    (subst (IsWithin t most) (sym (part-listed j (place_row bs p)))
-    (cell-within t j n most bs p bound h (All-head (IsPlaced n bs) p ps all)))
-    (column-within t j n most bs ps bound h (All-tail (IsPlaced n bs) p ps all))
+    All-cons (IsWithin t most) (part j (row_cell (located_row bs p))) (map (part j) (row_cells (map (located_row bs) ps)))
+    (subst (IsWithin t most) (sym (part-listed j (located_row bs p)))
+    (cell-within t j n most bs p bound h (All-head (IsLocated n bs) p ps all)))
+    (column-within t j n most bs ps bound h (All-tail (IsLocated n bs) p ps all))
 
 cells-within : (t : Rose Layout) (j most : ℕ) (rows : List (List Datum))
     → All (IsWithin t most) (map (part j) (row_cells rows)) → All (λ row. IsWithin t most (get_or row j null)) rows
@@ -130,7 +130,7 @@ joined-within t columns r i most have h bound =
     let column = joined-have columns r j have (column-below columns r i have h) in
     cells-within t j most (joined_rows r)
     (subst (All (IsWithin t most)) (sym (joined-column columns r j have))
-    (column-within t (place_of r j) column.width most (half r j).batches.now (half r j).places.now bound column.below
+    (column-within t (place_of r j) column.width most (half r j).batches.now (half r j).locations.now bound column.below
     column.placed))
 
 -- column after column

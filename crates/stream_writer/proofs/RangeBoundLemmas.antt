@@ -4,7 +4,7 @@ use Rattle.std.specs.Prelude.{if◌then◌else◌, max, nat_lt, slice_get}
 use Rattle.std.proofs.lemmas.Bool.{cases_lt}
 use Rattle.std.proofs.lemmas.List.{drop_all, drop_more}
 use Rattle.values.specs.Datum.{Datum, null, truth, whole, text, bytes, list, structure, items_of}
-use Rattle.values.specs.Layouts.{Holds, HoldsEach, slot, weight}
+use Rattle.values.specs.Layouts.{Holds, HoldsEach, null_weight, weight}
 use Rattle.values.specs.Limits.{max_cell_weight}
 use Rattle.values.specs.Rose.{Rose, node, Roses, kids_of}
 use Rattle.values.specs.Weights.{saturated}
@@ -95,7 +95,7 @@ bytes-lie (node (Listed o) kids) b held = absurd held
 bytes-lie (node Struct kids) b held = absurd held
 
 flat-weight : (t u : Rose Layout) (l : Layout) (kids : Roses Layout) (d : Datum) (w : ℕ) → t ≡ node l kids → IsFlat l
-    → Holds t d → Holds u d → slot t ≤ w → weight u d ≤ w → weight t d ≤ w + 4
+    → Holds t d → Holds u d → null_weight t ≤ w → weight u d ≤ w → weight t d ≤ w + 4
 flat-weight (node Booleans ks) u l kids d w is flat here there small light = omega (arith, small)
 flat-weight (node (Int i s) ks) u l kids d w is flat here there small light = omega (arith, small)
 flat-weight (node (Decimal p) ks) u l kids d w is flat here there small light = omega (arith, small)
@@ -119,9 +119,9 @@ flat-weight (node (Binary o) ks) u l kids (structure es) w is flat here there sm
 flat-weight (node (Listed o) ks) u l kids d w is flat here there small light = absurd (flat.list o (cc is))
 flat-weight (node Struct ks) u l kids d w is flat here there small light = absurd (flat.struct (cc is))
 
-pub slot-small : (n most : ℕ) → saturated n ≤ most → most ≤ max_cell_weight → n ≤ most
+pub null_weight-small : (n most : ℕ) → saturated n ≤ most → most ≤ max_cell_weight → n ≤ most
 unfolding saturated
-slot-small n most le small = by (nat_lt n (2 ^ 64)) le
+null_weight-small n most le small = by (nat_lt n (2 ^ 64)) le
   where
     by : (b : Bool) → (if b then n else 2 ^ 64 - 1) ≤ most → n ≤ most
     by true h = h
@@ -130,14 +130,14 @@ slot-small n most le small = by (nat_lt n (2 ^ 64)) le
 pub values-bounded :
     (t : Rose Layout) (l : Layout) (kids : Roses Layout) (c : CheckedColumn) (from to most own all : ℕ)
     → t ≡ node l kids → IsFlat l → All (λ d. Holds c.layouts d) c.cells → to ≤ length c.cells
-    → IsHeaviest c from to most → own ≡ saturated (slot t) → all ≡ max most own → all ≤ max_cell_weight
+    → IsHeaviest c from to most → own ≡ saturated (null_weight t) → all ≡ max most own → all ≤ max_cell_weight
     → BoundsCells t c from to (all + 4)
 values-bounded t l kids c from to most own all is flat held within heaviest own_is all_is small = record {
   each = λ k low high here.
       let there : Holds c.layouts (get_or c.cells k null) = held k null (omega (arith, high, within)) in
       let light = heaviest.each (omega (arith, all_is, small)) k low high in
       flat-weight t c.layouts l kids (get_or c.cells k null) all is flat here there
-      (slot-small (slot t) all (omega (arith, own_is, all_is)) small) (omega (arith, light, all_is));
+      (null_weight-small (null_weight t) all (omega (arith, own_is, all_is)) small) (omega (arith, light, all_is));
   most_is = omega (arith, small);
 }
 

@@ -33,8 +33,8 @@ use Rattle.stream_writer.specs.DictionaryLaw.{
   DifferInPairs,
   IsInCells,
   IsOneOf,
+  NameTheirTexts,
   SampleIsNumbered,
-  StandForTheirTexts,
 }
 use Rattle.stream_writer.proofs.Decoded.{added, kept, or-left, or-right, place-found}
 use Rattle.stream_writer.proofs.NumberedTexts.{texts-next}
@@ -195,7 +195,7 @@ begin-alike cells later =
 
 -- indices
 
-pub stand-for-their-texts : StandForTheirTexts
+pub stand-for-their-texts : NameTheirTexts
 stand-for-their-texts cells t h =
     let values = texts_after [] cells in
     (position_or_len (bytes_eq t) values, refl, place-found t values (texts-found [] cells t h))

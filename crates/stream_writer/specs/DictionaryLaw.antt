@@ -48,8 +48,8 @@ BeginAlike =
     → (more : List (List ℕ)) × (texts_after [] (cells ++ later) ≡ texts_after [] cells ++ more)
 
 -- The index of a text that a cell holds is the place of that text among the values.
-abbrev pub StandForTheirTexts : Type 0
-StandForTheirTexts =
+abbrev pub NameTheirTexts : Type 0
+NameTheirTexts =
     (cells : List Datum) (t : List ℕ) → IsInCells t cells
     → (n : ℕ) × (index_in (texts_after [] cells) (text t) ≡ whole (pos n))
     × (slice_get (map text (texts_after [] cells)) n ≡ Some (text t))

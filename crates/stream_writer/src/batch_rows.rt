@@ -28,13 +28,13 @@ pub(crate) struct BatchRows<'a> {
 
 /// The place of a row: so many batches lie before the one with it, in which it is row `from`.
 #[derive(Clone, Copy)]
-pub(crate) struct Place {
+pub(crate) struct RowPosition {
     pub batches: usize,
     pub from: usize,
 }
 
 /// The place of row `from`, counted through all batches.
-pub(crate) fn find_row(batches: &[Batch], from: usize) -> Place
+pub(crate) fn find_row(batches: &[Batch], from: usize) -> RowPosition
     ensures within { result.batches ≤ length batches.now }
     ensures rows { drop result.from (rows_of (drop result.batches batches.now)) ≡ drop from (rows_of batches.now) }
     ensures bound { result.from ≤ from }
@@ -46,14 +46,14 @@ pub(crate) fn find_row(batches: &[Batch], from: usize) -> Place
     for i in 0..batches.len() {
         let rows = batches[i].rows;
         if start < rows {
-            return Place {
+            return RowPosition {
                 batches: i,
                 from: start,
             };
         }
         start -= rows;
     }
-    Place {
+    RowPosition {
         batches: batches.len(),
         from: start,
     }

@@ -3,21 +3,21 @@
 ghost use Rattle.std.specs.Prelude.{◌≡◌, ◌<◌, [], IfOk, get_or, length, map};
 ghost use Rattle.values.specs.Datum.{null};
 ghost use Rattle.body_writer.specs.Picked.{picked, picked_rows};
-ghost use Rattle.body_writer.specs.Places.{HaveColumn, column_at};
+ghost use Rattle.body_writer.specs.Locations.{HaveColumn, column_at};
 ghost use Rattle.stream_writer.specs.JoinedRows.{HaveJoined, joined_rows};
 
 use crate::joined_rows::JoinedRows;
-use body_writer::{PlacedRows, copy_cell};
+use body_writer::{LocatedRows, copy_cell};
 use std::alloc::{AllocError, Global};
 use values::{Row, Value};
 
 /// A copy of the cell of row `index` in column `j`.
-fn copy_at(alloc: Global, rows: &PlacedRows, index: usize, j: usize) -> Result<Value, AllocError>
+fn copy_at(alloc: Global, rows: &LocatedRows, index: usize, j: usize) -> Result<Value, AllocError>
     requires have { HaveColumn j rows.now }
-    requires below { index < length rows.now.places.now }
+    requires below { index < length rows.now.locations.now }
     ensures { IfOk result (λ cell. cell ≡ get_or (column_at j rows.now) index null) }
 {
-    copy_cell(alloc, rows.batches, &rows.places[index], j)
+    copy_cell(alloc, rows.batches, &rows.locations[index], j)
 }
 
 /// A copy of the cells of row `index` in the columns at these positions.
@@ -28,7 +28,7 @@ fn copy_row(
     index: usize,
 ) -> Result<Row, AllocError>
     requires have { HaveJoined columns.now rows.now }
-    requires below { index < length rows.now.main.places.now }
+    requires below { index < length rows.now.main.locations.now }
     ensures { IfOk result (λ row. row.items ≡ picked columns.now (get_or (joined_rows rows.now) index [])) }
 {
     let mut row = Vec::with_capacity(alloc, columns.len())?;
@@ -49,8 +49,8 @@ pub(crate) fn copy_joined(
     ensures { IfOk result (λ copies.
         map (λ row. row.items) copies.items ≡ picked_rows columns.now (joined_rows rows.now)) }
 {
-    let mut copies = Vec::with_capacity(alloc, rows.main.places.len())?;
-    for index in 0..rows.main.places.len() {
+    let mut copies = Vec::with_capacity(alloc, rows.main.locations.len())?;
+    for index in 0..rows.main.locations.len() {
         copies.push(copy_row(alloc, columns, rows, index)?)?;
     }
     Ok(copies)

@@ -1,7 +1,7 @@
 //! Rows of a main table with rows of a side table beside them.
 
 ghost use Rattle.std.specs.Prelude.{◌≡◌, ℕ, ◌≤◌, List, drop, length, take};
-ghost use Rattle.body_writer.specs.Places.{rows_at};
+ghost use Rattle.body_writer.specs.Locations.{rows_at};
 ghost use Rattle.stream_writer.specs.JoinedRows.{
   HaveAlone,
   HaveJoined,
@@ -12,59 +12,59 @@ ghost use Rattle.stream_writer.specs.JoinedRows.{
   place_of,
 };
 
-use body_writer::PlacedRows;
+use body_writer::LocatedRows;
 
 /// Rows of a main table, which have `width` cells, each followed by the cells of the row of a side table beside it.
 /// There are as many places in the side table. Where one is in no batch, the cells of the side table are null.
 #[derive(Clone, Copy)]
 pub struct JoinedRows<'a> {
     pub width: usize,
-    pub main: PlacedRows<'a>,
-    pub side: PlacedRows<'a>,
+    pub main: LocatedRows<'a>,
+    pub side: LocatedRows<'a>,
 }
 
 /// The first `count` rows.
-fn first_of<'a>(rows: &PlacedRows<'a>, count: usize) -> PlacedRows<'a>
-    requires { count ≤ length rows.now.places.now }
+fn first_of<'a>(rows: &LocatedRows<'a>, count: usize) -> LocatedRows<'a>
+    requires { count ≤ length rows.now.locations.now }
     ensures batches { result.batches ≡ rows.now.batches }
-    ensures places { result.places.now ≡ take count rows.now.places.now }
+    ensures locations { result.locations.now ≡ take count rows.now.locations.now }
 {
-    PlacedRows {
+    LocatedRows {
         batches: rows.batches,
-        places: &rows.places[..count],
+        locations: &rows.locations[..count],
     }
 }
 
 /// The rows after the first `count`.
-fn rest_of<'a>(rows: &PlacedRows<'a>, count: usize) -> PlacedRows<'a>
-    requires { count ≤ length rows.now.places.now }
+fn rest_of<'a>(rows: &LocatedRows<'a>, count: usize) -> LocatedRows<'a>
+    requires { count ≤ length rows.now.locations.now }
     ensures batches { result.batches ≡ rows.now.batches }
-    ensures places { result.places.now ≡ drop count rows.now.places.now }
+    ensures locations { result.locations.now ≡ drop count rows.now.locations.now }
 {
-    PlacedRows {
+    LocatedRows {
         batches: rows.batches,
-        places: &rows.places[count..],
+        locations: &rows.locations[count..],
     }
 }
 
 impl<'a> JoinedRows<'a> {
     /// These rows, which have `width` cells, without rows of a side table.
-    pub fn alone(width: usize, main: PlacedRows<'a>) -> JoinedRows<'a>
+    pub fn alone(width: usize, main: LocatedRows<'a>) -> JoinedRows<'a>
         ensures rows { joined_rows result ≡ rows_at main.entry }
         ensures have { (columns : List ℕ) → HaveAlone columns width main.entry → HaveJoined columns result }
     {
         JoinedRows {
             width,
             main,
-            side: PlacedRows {
+            side: LocatedRows {
                 batches: &[],
-                places: main.places,
+                locations: main.locations,
             },
         }
     }
 
     /// The rows of the table in which column `j` stands.
-    pub(crate) fn half(&self, j: usize) -> &PlacedRows<'a>
+    pub(crate) fn half(&self, j: usize) -> &LocatedRows<'a>
         ensures { result.now ≡ half self.now j }
     {
         if j < self.width {
@@ -85,8 +85,8 @@ impl<'a> JoinedRows<'a> {
 
     /// The first `count` rows.
     pub(crate) fn first(&self, count: usize) -> JoinedRows<'a>
-        requires main { count ≤ length self.now.main.places.now }
-        requires side { count ≤ length self.now.side.places.now }
+        requires main { count ≤ length self.now.main.locations.now }
+        requires side { count ≤ length self.now.side.locations.now }
         ensures { IsFirst count self.now result }
     {
         JoinedRows {
@@ -98,8 +98,8 @@ impl<'a> JoinedRows<'a> {
 
     /// The rows after the first `count`.
     pub(crate) fn rest(&self, count: usize) -> JoinedRows<'a>
-        requires main { count ≤ length self.now.main.places.now }
-        requires side { count ≤ length self.now.side.places.now }
+        requires main { count ≤ length self.now.main.locations.now }
+        requires side { count ≤ length self.now.side.locations.now }
         ensures { IsRest count self.now result }
     {
         JoinedRows {

@@ -8,8 +8,8 @@ ghost use Rattle.stream_writer.specs.DictionaryLaw.{
   BeginAlike,
   DictionaryLaw,
   DifferInPairs,
+  NameTheirTexts,
   SampleIsNumbered,
-  StandForTheirTexts,
   ValuesLaw,
 };
 ghost use Rattle.stream_writer.specs.FramingLaw.{FirstLaw, LastLaw};
@@ -51,7 +51,7 @@ pub fn values_law()
     ensures texts { AreTheTexts }
     ensures different { DifferInPairs }
     ensures order { BeginAlike }
-    ensures indices { StandForTheirTexts }
+    ensures indices { NameTheirTexts }
     ensures sample { SampleIsNumbered }
 {}
 

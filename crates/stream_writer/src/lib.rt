@@ -16,10 +16,10 @@ mod joined_copies;
 mod joined_rows;
 mod laws;
 mod layouts;
+mod locate_rows;
+mod location_bounds;
 mod memory;
 mod messages;
-mod place_bounds;
-mod place_rows;
 mod progress;
 mod range_bounds;
 mod range_copies;
@@ -40,7 +40,7 @@ pub use layouts::layouts_of;
 pub use memory::MemorySink;
 pub use sink::{DeviceFault, Sink, put_all};
 pub use table::{
-    write_batches, write_coded, write_places, write_ranges, write_table, write_weighed_batches,
+    write_batches, write_coded, write_locations, write_ranges, write_table, write_weighed_batches,
 };
 pub use table_writer::TableWriter;
 pub use weighing::weights_in;

@@ -28,7 +28,7 @@ pub(crate) struct RangeRows<'a> {
 
 /// The place of a row: so many ranges lie before the one with it, of which it is row `from`.
 #[derive(Clone, Copy)]
-struct RangePlace {
+struct RangePosition {
     ranges: usize,
     from: usize,
 }
@@ -43,7 +43,7 @@ fn rows_in(range: &RowRange) -> usize
 }
 
 /// The place of row `from`, counted through all ranges.
-fn find_range(ranges: &[RowRange], from: usize) -> RangePlace
+fn find_range(ranges: &[RowRange], from: usize) -> RangePosition
     requires { (n : ℕ) × All (IsRange n) ranges.now }
     ensures within { result.ranges ≤ length ranges.now }
     ensures rows { drop result.from (ranges_rows (drop result.ranges ranges.now)) ≡ drop from (ranges_rows ranges.now) }
@@ -53,14 +53,14 @@ fn find_range(ranges: &[RowRange], from: usize) -> RangePlace
     for i in 0..ranges.len() {
         let rows = rows_in(&ranges[i]);
         if start < rows {
-            return RangePlace {
+            return RangePosition {
                 ranges: i,
                 from: start,
             };
         }
         start -= rows;
     }
-    RangePlace {
+    RangePosition {
         ranges: ranges.len(),
         from: start,
     }

@@ -17,8 +17,8 @@ use crate::faults::WriteFault;
 use crate::joined_copies::copy_joined;
 use crate::joined_rows::JoinedRows;
 use crate::layouts::layouts_of;
-use crate::place_bounds::{are_light_joined, find_arrays};
-use crate::place_rows::PlaceRows;
+use crate::locate_rows::PlaceRows;
+use crate::location_bounds::{are_light_joined, find_arrays};
 use crate::progress::{put_rest, put_schema};
 use crate::range_bounds::are_light;
 use crate::range_copies::copy_rows;
@@ -166,7 +166,7 @@ pub fn write_ranges<S: Sink>(
 /// have fewer than 1,024 rows for it, and where there are lists or structs.
 ///
 /// On an error the sink took a beginning of that stream: `written` bytes.
-pub fn write_places<S: Sink>(
+pub fn write_locations<S: Sink>(
     alloc: Global,
     sink: &mut S,
     schema: &Schema,

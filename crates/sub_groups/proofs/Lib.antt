@@ -1,7 +1,7 @@
 pub mod Absent
 pub mod Conjuncts
 pub mod FilterSplit
-pub mod StandInRows
+pub mod RepresentativeRows
 pub mod CountedRows
-pub mod StandInCells
+pub mod RepresentativeCells
 pub mod MovedViews

@@ -7,7 +7,7 @@ use Rattle.view_lang.specs.Outputs.{GroupOutput}
 use Rattle.view_lang.specs.declared.aggregate.Aggregate.{Aggregate}
 use Rattle.view_lang.specs.Aggregates.{column_read}
 use Rattle.group_state.specs.Aggregates.{AreReadBy, is_number_of, is_read, reads}
-use Rattle.group_state.specs.declared.kept_columns.KeptColumn.{KeptColumn}
+use Rattle.group_state.specs.declared.accumulated_columns.AccumulatedColumn.{AccumulatedColumn}
 use Rattle.sub_groups.specs.FilterParts.{is_main}
 use Rattle.sub_groups.specs.Moved.{is_side, read_side, reads_side}
 use Rattle.sub_groups.specs.SubGroups.{are_main}
@@ -40,7 +40,7 @@ some-main n k (o ∷ os) none some =
     none some (λ here main. one-main n k o.aggregate here main) (λ there main. some-main n k os main there)
 
 -- So are the columns of which groups with these outputs keep something.
-all-main : (n : ℕ) (outs : List GroupOutput) (columns : List KeptColumn) → read_side n outs ≡ false
+all-main : (n : ℕ) (outs : List GroupOutput) (columns : List AccumulatedColumn) → read_side n outs ≡ false
     → AreReadBy outs columns → list_any (λ c. not (is_main n c.column)) columns ≡ false
 all-main n outs [] none read = refl
 all-main n outs (c ∷ cs) none read =
@@ -59,7 +59,7 @@ flipped true h = absurd (true≢false (sym h))
 
 -- Where a view can't be kept by sub-groups, it isn't one that moves rows together.
 pub unmoved :
-    (n : ℕ) (outs : List GroupOutput) (columns : List KeptColumn) (on decided : Bool) → AreReadBy outs columns
+    (n : ℕ) (outs : List GroupOutput) (columns : List AccumulatedColumn) (on decided : Bool) → AreReadBy outs columns
     → (on && (are_main n columns && decided)) ≡ false → (on && (not (read_side n outs) && decided)) ≡ false
 unmoved n outs columns on decided read h =
     both-false on (are_main n columns) (read_side n outs) decided

@@ -8,7 +8,7 @@ use Rattle.view_lang.specs.Outputs.{GroupOutput, Outputs, columns, groups}
 use Rattle.view_lang.specs.declared.aggregate.Aggregate.{Aggregate}
 use Rattle.view_lang.specs.declared.view.Lookup.{Lookup}
 use Rattle.group_state.specs.Aggregates.{AreReadBy}
-use Rattle.group_state.specs.declared.kept_columns.KeptColumn.{KeptColumn}
+use Rattle.group_state.specs.declared.accumulated_columns.AccumulatedColumn.{AccumulatedColumn}
 use Rattle.sub_groups.specs.FilterParts.{are_decided, conjuncts, is_main}
 use Rattle.sub_groups.specs.SubGroups.{sub_keys}
 
@@ -38,6 +38,6 @@ abbrev pub is_moved : ℕ → View → Bool
 is_moved n v = moves_by n v.lookup v.filter v.outputs
 
 -- Groups with these outputs keep something of columns alone that an output reads.
-abbrev pub KeepRead : Outputs → List KeptColumn → Type 0
+abbrev pub KeepRead : Outputs → List AccumulatedColumn → Type 0
 KeepRead (columns outputs) kept = Unit {0}
 KeepRead (groups by outputs having) kept = AreReadBy outputs kept

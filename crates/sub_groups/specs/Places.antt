@@ -9,28 +9,28 @@ use Rattle.group_state.specs.Keys.{data_of}
 use Rattle.sub_groups.specs.FilterParts.{passes_others}
 
 -- the cell of a column in a row that has these cells in these columns; null in the others
-abbrev pub stand_cell : List ℕ → List Datum → ℕ → Datum
-stand_cell [] cells k = null
-stand_cell (j ∷ js) [] k = null
-stand_cell (j ∷ js) (d ∷ ds) k = if j == k then d else stand_cell js ds k
+abbrev pub representative_cell : List ℕ → List Datum → ℕ → Datum
+representative_cell [] cells k = null
+representative_cell (j ∷ js) [] k = null
+representative_cell (j ∷ js) (d ∷ ds) k = if j == k then d else representative_cell js ds k
 
 -- the first place of a column among others, counted from n
 abbrev pub place_in : ℕ → List ℕ → ℕ → Option ℕ
 place_in n [] k = None
 place_in n (j ∷ js) k = if j == k then Some n else place_in (suc n) js k
 
-abbrev pub stand_from : List ℕ → List Datum → ℕ → ℕ → List Datum
-stand_from keys cells i zero = []
-stand_from keys cells i (suc m) = stand_cell keys cells i ∷ stand_from keys cells (suc i) m
+abbrev pub representative_from : List ℕ → List Datum → ℕ → ℕ → List Datum
+representative_from keys cells i zero = []
+representative_from keys cells i (suc m) = representative_cell keys cells i ∷ representative_from keys cells (suc i) m
 
 -- a row of the main table, which has n columns, that stands for all rows of a sub-group: it has their cells in these
 -- columns
-abbrev pub stand_in : ℕ → List ℕ → List Key → List Datum
-stand_in n keys tuple = stand_from keys (data_of tuple) 0 n
+abbrev pub representative : ℕ → List ℕ → List Key → List Datum
+representative n keys tuple = representative_from keys (data_of tuple) 0 n
 
 -- The row that stands for a sub-group, joined, if the view doesn't leave it out. What the main table decides alone was
 -- asked of each row before.
-abbrev pub stand_row : ℕ → View → Side → List ℕ → List Key → Option (List Datum)
-stand_row n v side keys tuple =
+abbrev pub representative_row : ℕ → View → Side → List ℕ → List Key → Option (List Datum)
+representative_row n v side keys tuple =
     option_and_then (λ r. cond (passes_others n v.filter r) (Some r) None)
-    (joined_row v.lookup side (stand_in n keys tuple))
+    (joined_row v.lookup side (representative n keys tuple))

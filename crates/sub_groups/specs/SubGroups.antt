@@ -34,7 +34,7 @@ use Rattle.view_lang.specs.Joined.{Side}
 use Rattle.view_lang.specs.Outputs.{GroupOutput, groups}
 use Rattle.view_lang.specs.Aggregates.{IsKeyCell}
 use Rattle.view_lang.specs.Shifts.{NumberedRows}
-use Rattle.view_lang.specs.Views.{kept_row}
+use Rattle.view_lang.specs.Views.{passing_row}
 use Rattle.view_lang.specs.declared.view.Lookup.{Lookup}
 use Rattle.group_state.specs.GroupCounts.{GroupCounts}
 use Rattle.group_state.specs.GroupParts.{grouped_with}
@@ -44,9 +44,9 @@ use Rattle.group_state.specs.Moves.{AreTogether}
 use Rattle.group_state.specs.Rows.{KeepsRows}
 use Rattle.group_state.specs.declared.parts.GroupsParts.{GroupsParts}
 use Rattle.group_state.specs.Tuples.{members, tuple_of}
-use Rattle.group_state.specs.declared.kept_columns.KeptColumn.{KeptColumn}
+use Rattle.group_state.specs.declared.accumulated_columns.AccumulatedColumn.{AccumulatedColumn}
 use Rattle.sub_groups.specs.FilterParts.{are_decided, conjuncts, is_main, passes_main}
-use Rattle.sub_groups.specs.Places.{stand_row}
+use Rattle.sub_groups.specs.Places.{representative_row}
 use Rattle.sub_groups.specs.declared.sub_groups.SubGroups.{SubGroups}
 
 -- the columns of the main table by which sub-groups are made: the one that is looked up, and the grouping columns
@@ -54,13 +54,13 @@ abbrev pub sub_keys : ℕ → Lookup → List ℕ → List ℕ
 sub_keys n l by = l.on ∷ filter (λ k. is_main n k && not (k == l.on)) by
 
 -- whether something is kept of columns of the main table alone
-abbrev pub are_main : ℕ → List KeptColumn → Bool
+abbrev pub are_main : ℕ → List AccumulatedColumn → Bool
 are_main n columns = not (list_any (λ c. not (is_main n c.column)) columns)
 
 -- A view of groups by these columns, which keep something of these, can be kept by sub-groups, where the main table has
 -- n columns.
 pub record CanSubGroup
-    (n : ℕ) (v : View) (l : Lookup) (by : List ℕ) (columns : List KeptColumn) :
+    (n : ℕ) (v : View) (l : Lookup) (by : List ℕ) (columns : List AccumulatedColumn) :
     Type 0 where
   pub lookup : v.lookup ≡ Some l
   pub on : l.on < n
@@ -106,7 +106,7 @@ pub record IsSubRow (n : ℕ) (v : View) (keys : List ℕ) (row : List Datum) : 
 
 -- What the view makes of these rows has this grouping tuple, or they are left out.
 pub record ArePlaced
-    (by : List ℕ) (columns : List KeptColumn) (place : Option (List Datum)) (rows made : List (List Datum)) :
+    (by : List ℕ) (columns : List AccumulatedColumn) (place : Option (List Datum)) (rows made : List (List Datum)) :
     Type 0 where
   pub none : place ≡ None → made ≡ []
   pub some : (r : List Datum) → place ≡ Some r → All (λ row. tuple_of by row ≡ tuple_of by r) made
@@ -115,17 +115,17 @@ pub record ArePlaced
 -- The rows of a sub-group go where the row goes that stands for them.
 abbrev pub SubGroupsArePlaced : Type 0
 SubGroupsArePlaced =
-    (n : ℕ) (v : View) (l : Lookup) (by : List ℕ) (columns : List KeptColumn) (side : Side) (rows : List (List Datum))
+    (n : ℕ) (v : View) (l : Lookup) (by : List ℕ) (columns : List AccumulatedColumn) (side : Side) (rows : List (List Datum))
     (t : List Key)
     → CanSubGroup n v l by columns → All (IsSubRow n v (sub_keys n l by)) rows
-    → ArePlaced by columns (stand_row n v side (sub_keys n l by) t) (members (sub_keys n l by) t rows)
-    (filter_map (kept_row v side) (members (sub_keys n l by) t rows))
+    → ArePlaced by columns (representative_row n v side (sub_keys n l by) t) (members (sub_keys n l by) t rows)
+    (filter_map (passing_row v side) (members (sub_keys n l by) t rows))
 
 -- Of a row that is in no sub-group the view makes nothing.
 abbrev pub OthersAreLeftOut : Type 0
 OthersAreLeftOut =
     (n : ℕ) (v : View) (side : Side) (row : List Datum) → length row ≡ n → passes_main n v.filter row ≡ false
-    → kept_row v side row ≡ None
+    → passing_row v side row ≡ None
 
 -- the rows that are in none of these sub-groups
 abbrev pub rows_but : List ℕ → List (List Key) → List (List Datum) → List (List Datum)

@@ -9,7 +9,7 @@
 mod columns;
 mod filter_parts;
 mod laws;
-mod stand_in;
+mod representative;
 mod sub_groups;
 #[cfg(test)]
 mod tests;

@@ -29,7 +29,7 @@ ghost use Rattle.group_state.specs.Groups.{Keeps};
 ghost use Rattle.group_state.specs.Keys.{tuple_cmp};
 ghost use Rattle.group_state.specs.Moves.{begins_with_one, is_tuple_among};
 ghost use Rattle.sub_groups.specs.FilterParts.{are_decided, conjuncts};
-ghost use Rattle.sub_groups.specs.Places.{stand_in};
+ghost use Rattle.sub_groups.specs.Places.{representative};
 ghost use Rattle.sub_groups.specs.Moved.{KeepRead, is_moved};
 ghost use Rattle.sub_groups.specs.SubGroups.{
   AreSubGroups,
@@ -43,8 +43,8 @@ ghost use Rattle.sub_groups.specs.SubGroups.{
 
 use crate::columns::is_among;
 use crate::filter_parts::{is_filter_decided, passes_main};
-use crate::stand_in::stand_in;
-use group_state::{Group, Groups, GroupsParts, KeptColumn, Tuple};
+use crate::representative::representative;
+use group_state::{AccumulatedColumn, Group, Groups, GroupsParts, Tuple};
 use std::alloc::{AllocError, Global};
 use values::{Row, Value};
 use view_lang::{Lookup, Outputs, RowView, View};
@@ -77,7 +77,7 @@ fn sub_keys(
 }
 
 /// Whether something is kept of columns of the main table alone.
-fn are_main(columns: &[KeptColumn], width: usize) -> bool
+fn are_main(columns: &[AccumulatedColumn], width: usize) -> bool
     ensures { result ≡ are_main width columns.now }
 {
     for column in columns {
@@ -93,7 +93,7 @@ fn can_sub_group(
     view: &View,
     lookup: Lookup,
     width: usize,
-    columns: &[KeptColumn],
+    columns: &[AccumulatedColumn],
     keys: &[usize],
 ) -> bool
     ensures on { result ≡ true → lookup.on < width }
@@ -112,7 +112,7 @@ impl SubGroups {
         alloc: Global,
         view: &View,
         width: usize,
-        columns: &[KeptColumn],
+        columns: &[AccumulatedColumn],
     ) -> Result<Option<SubGroups>, AllocError>
         ensures right { IfOk result (λ made. IfSome made (AreSubGroups width view.now)) }
         ensures none { IfOk result (λ made.
@@ -203,10 +203,15 @@ impl SubGroups {
     }
 
     /// The row that stands for the sub-group of a tuple, where the main table has `width` columns.
-    pub fn stand_in(&self, alloc: Global, width: usize, tuple: &Tuple) -> Result<Row, AllocError>
-        ensures { IfOk result (λ row. row.items ≡ stand_in width self.now.groups.keys tuple.now) }
+    pub fn representative(
+        &self,
+        alloc: Global,
+        width: usize,
+        tuple: &Tuple,
+    ) -> Result<Row, AllocError>
+        ensures { IfOk result (λ row. row.items ≡ representative width self.now.groups.keys tuple.now) }
     {
-        let row = stand_in(alloc, self.groups.keys(), width, tuple)?;
+        let row = representative(alloc, self.groups.keys(), width, tuple)?;
         Ok(row)
     }
 }

@@ -1,7 +1,7 @@
 //! Sub-groups of a few rows, kept while rows come and go.
 
 use crate::{SubGroups, passes_others};
-use group_state::{KeptColumn, KeptForm};
+use group_state::{AccumulatedColumn, AccumulatorForm};
 use std::alloc::{AllocError, Global};
 use std::cmp::Ordering;
 use std::test::Fail;
@@ -78,10 +78,10 @@ fn view(alloc: Global, filter: Filter) -> Result<View, AllocError> {
     })
 }
 
-fn summed(column: usize) -> KeptColumn {
-    KeptColumn {
+fn summed(column: usize) -> AccumulatedColumn {
+    AccumulatedColumn {
         column,
-        form: KeptForm::Total,
+        form: AccumulatorForm::Total,
     }
 }
 
@@ -157,10 +157,10 @@ fn follows_rows_that_come_and_go(rt: HostRuntime) -> Result<(), Fail> {
         return Err(Fail::from("not one tuple"));
     };
     assert!(rt; sub_groups.group(seven).is_some());
-    let stand_in = sub_groups.stand_in(rt.alloc(), WIDTH, seven)?;
+    let representative = sub_groups.representative(rt.alloc(), WIDTH, seven)?;
     let null = Value { kind: Kind::Null };
     let other = Value { kind: Kind::Null };
-    assert!(rt; is_row(&stand_in, &[null, int(7), int(3), other]));
+    assert!(rt; is_row(&representative, &[null, int(7), int(3), other]));
     Ok(())
 }
 

@@ -8,7 +8,7 @@ use Rattle.values.specs.contracts.key.KeyOrd.TheImpl as order
 use Rattle.values.specs.declared.key.Key.{Key}
 use Rattle.values.specs.declared.key.Key.TheVariants as key
 use Rattle.top_rows.specs.InlineKeys.{IsListed, inline_cmp, listed}
-use Rattle.top_rows.specs.PlaceOrder.{sort_key_cmp}
+use Rattle.top_rows.specs.EntryOrder.{sort_key_cmp}
 use Rattle.top_rows.specs.declared.inline_kind.InlineKind.{InlineKind}
 use Rattle.top_rows.specs.declared.inline_kind.InlineKind.TheVariants as kind
 use Rattle.top_rows.specs.declared.sort_key.SortKey.{SortKey}

@@ -4,5 +4,5 @@ pub mod SortKeys
 pub mod InlineKeys
 pub mod Ties
 pub mod OneRow
-pub mod SortedPlaces
+pub mod SortedOrderEntries
 pub mod FirstRows

@@ -13,9 +13,9 @@ use Rattle.view_lang.specs.Counted.{lookup-with_at}
 use Rattle.view_lang.specs.Shifts.{NumberedRows, row_at, with_at}
 use Rattle.view_lang.specs.declared.view.OrderBy.{OrderBy}
 use Rattle.top_rows.specs.Keeping.{Keeps}
-use Rattle.top_rows.specs.OrderedPlaces.{OrderedPlaces}
-use Rattle.top_rows.specs.PlaceOrder.{RowPlace, place_cmp}
-use Rattle.top_rows.specs.Places.{is_place, is_place_of, place_of, stands}
+use Rattle.top_rows.specs.OrderedEntries.{OrderedEntries}
+use Rattle.top_rows.specs.EntryOrder.{RowEntry, entry_cmp}
+use Rattle.top_rows.specs.Places.{is_entry, is_entry_of, place_of, stands}
 use Rattle.top_rows.specs.Ties.{KeepsBy, named}
 use Rattle.top_rows.proofs.Ties.{keeps-same, keeps-with, keeps-without, set_at}
 
@@ -38,30 +38,30 @@ set-twice n m a rows s = either (is_at (nat_cmp n) m) ∙ sym (lookup-with_at n 
     either false = refl
 
 -- The place of a row is put in, or taken away.
-pub stands-place : (b : Bool) (new : List RowPlace) (place p : RowPlace) (inside seen : OrderedPlaces)
+pub stands-entry : (b : Bool) (new : List RowEntry) (entry p : RowEntry) (inside seen : OrderedEntries)
     (order : List OrderBy) (n : ℕ) (row : List Datum)
-    → stands new p ≡ cond (is_at (place_cmp place) p) b (stands inside.places p) → place ≡ place_of order n row
-    → order ≡ inside.order → inside ≡ seen → stands new p ≡ cond (is_place seen.order n row p) b (stands seen.places p)
-stands-place b new place p inside seen order n row h is by view =
-    h ∙ ap (λ (k : RowPlace). cond (is_at (place_cmp k) p) b (stands inside.places p)) is
-    ∙ ap (λ (o : List OrderBy). cond (is_place o n row p) b (stands inside.places p)) by
-    ∙ ap (λ (o : OrderedPlaces). cond (is_place o.order n row p) b (stands o.places p)) view
+    → stands new p ≡ cond (is_at (entry_cmp entry) p) b (stands inside.order_entries p) → entry ≡ place_of order n row
+    → order ≡ inside.order → inside ≡ seen → stands new p ≡ cond (is_entry seen.order n row p) b (stands seen.order_entries p)
+stands-entry b new entry p inside seen order n row h is by view =
+    h ∙ ap (λ (k : RowEntry). cond (is_at (entry_cmp k) p) b (stands inside.order_entries p)) is
+    ∙ ap (λ (o : List OrderBy). cond (is_entry o n row p) b (stands inside.order_entries p)) by
+    ∙ ap (λ (o : OrderedEntries). cond (is_entry o.order n row p) b (stands o.order_entries p)) view
 
 -- The row before is taken away, and that after it put in.
-pub keeps-one : (old mid new : OrderedPlaces) (n : ℕ) (before after : Option (List Datum)) (rows : NumberedRows)
+pub keeps-one : (old mid new : OrderedEntries) (n : ℕ) (before after : Option (List Datum)) (rows : NumberedRows)
     → mid.order ≡ old.order → new.order ≡ mid.order
-    → ((p : RowPlace) → stands mid.places p ≡ cond (is_place_of old.order n before p) false (stands old.places p))
-    → ((p : RowPlace) → stands new.places p ≡ cond (is_place_of mid.order n after p) true (stands mid.places p))
+    → ((p : RowEntry) → stands mid.order_entries p ≡ cond (is_entry_of old.order n before p) false (stands old.order_entries p))
+    → ((p : RowEntry) → stands new.order_entries p ≡ cond (is_entry_of mid.order n after p) true (stands mid.order_entries p))
     → IsStrictlySortedBy nat_cmp (keys_of rows) → row_at n rows ≡ before → Keeps old rows
     → Keeps new (with_at n after rows)
 keeps-one old mid new n before after rows c d f g s is k =
-    let gone : KeepsBy nat_cmp old.order mid.places (set_row n None (at rows)) =
-    keeps-without nat_cmp nat_cmp_total exact_unsigned old.order old.places mid.places (at rows) n before k false is f in
-    let come : KeepsBy nat_cmp old.order new.places (set_row n after (set_row n None (at rows))) =
-    keeps-with nat_cmp nat_cmp_total exact_unsigned old.order mid.places new.places (set_row n None (at rows)) n
+    let gone : KeepsBy nat_cmp old.order mid.order_entries (set_row n None (at rows)) =
+    keeps-without nat_cmp nat_cmp_total exact_unsigned old.order old.order_entries mid.order_entries (at rows) n before k false is f in
+    let come : KeepsBy nat_cmp old.order new.order_entries (set_row n after (set_row n None (at rows))) =
+    keeps-with nat_cmp nat_cmp_total exact_unsigned old.order mid.order_entries new.order_entries (set_row n None (at rows)) n
     after gone false (none-at n rows)
-    (λ p. g p ∙ ap (λ (o : List OrderBy). cond (is_place_of o n after p) true (stands mid.places p)) c) in
-    subst (λ (o : List OrderBy). KeepsBy nat_cmp o new.places (at (with_at n after rows))) (sym (d ∙ c))
-    (keeps-same nat_cmp nat_cmp_total exact_unsigned old.order new.places
+    (λ p. g p ∙ ap (λ (o : List OrderBy). cond (is_entry_of o n after p) true (stands mid.order_entries p)) c) in
+    subst (λ (o : List OrderBy). KeepsBy nat_cmp o new.order_entries (at (with_at n after rows))) (sym (d ∙ c))
+    (keeps-same nat_cmp nat_cmp_total exact_unsigned old.order new.order_entries
     (set_row n after (set_row n None (at rows))) (at (with_at n after rows))
     (λ m. set-twice n m after rows s) come)

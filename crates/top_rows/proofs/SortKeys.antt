@@ -15,7 +15,7 @@ use Rattle.view_lang.specs.declared.view.Direction.{Direction}
 use Rattle.view_lang.specs.declared.view.Direction.TheVariants as direction
 use Rattle.view_lang.specs.declared.view.OrderBy.{OrderBy}
 use Rattle.top_rows.specs.SortKeys.{sort_key_of, sort_keys_of}
-use Rattle.top_rows.specs.PlaceOrder.{sort_key_cmp}
+use Rattle.top_rows.specs.EntryOrder.{sort_key_cmp}
 use Rattle.top_rows.specs.ViewOrder.{OrdersKeys}
 use Rattle.top_rows.specs.declared.sort_key.SortKey.{SortKey}
 use Rattle.top_rows.specs.declared.sort_key.SortKey.TheVariants as sort_key

@@ -22,17 +22,17 @@ use Rattle.view_lang.specs.Sorted.{placed, sorted}
 use Rattle.view_lang.specs.RowOrder.{row_cmp}
 use Rattle.view_lang.specs.declared.view.OrderBy.{OrderBy}
 use Rattle.view_lang.proofs.AscendingKeys.{same-keys}
-use Rattle.view_lang.proofs.KeptRows.{sorted_by_place}
+use Rattle.view_lang.proofs.KeptRows.{sorted_by_entry}
 use Rattle.view_lang.proofs.OwnEntries.{HasOwn, own-entries}
-use Rattle.top_rows.specs.PlaceOrder.{sort_key_cmp, tied_cmp, tied_total}
+use Rattle.top_rows.specs.EntryOrder.{sort_key_cmp, tied_cmp, tied_total}
 use Rattle.top_rows.specs.SortKeys.{sort_keys_of}
 use Rattle.top_rows.specs.ViewOrder.{OrdersKeys}
 use Rattle.top_rows.specs.declared.sort_key.SortKey.{SortKey}
 use Rattle.top_rows.specs.Ties.{
   has_sort_keys,
   stands_by,
-  place_by,
-  is_place_by,
+  entry_by,
+  is_entry_by,
   KeepsBy,
   named,
   placed_by,
@@ -73,17 +73,17 @@ module _ {N : Type 0} (cmp : N → N → Ordering) (total : IsTotalOrder cmp) (e
   module _ (order : List OrderBy) (n : N) (p : List SortKey × N) where
     -- at the row's own name the sort keys decide, at others nothing stands
     some-by : (a : Option (List Datum)) (b : Bool) → is_at (cmp n) p.1 ≡ b
-        → is_place_by cmp order n a p ≡ (has_sort_keys order p.0 a && b)
+        → is_entry_by cmp order n a p ≡ (has_sort_keys order p.0 a && b)
     some-by None b h = refl
     some-by (Some row) b h =
         sym (tied_then (slice_cmp sort_key_cmp (sort_keys_of order row) p.0) (cmp n p.1))
         ∙ ap (λ c. is_at (slice_cmp sort_key_cmp (sort_keys_of order row)) p.0 && c) h
 
     pub some-here : (a : Option (List Datum)) → is_at (cmp n) p.1 ≡ true
-        → is_place_by cmp order n a p ≡ has_sort_keys order p.0 a
+        → is_entry_by cmp order n a p ≡ has_sort_keys order p.0 a
     some-here a h = some-by a true h ∙ and_true (has_sort_keys order p.0 a)
 
-    pub some-there : (a : Option (List Datum)) → is_at (cmp n) p.1 ≡ false → is_place_by cmp order n a p ≡ false
+    pub some-there : (a : Option (List Datum)) → is_at (cmp n) p.1 ≡ false → is_entry_by cmp order n a p ≡ false
     some-there a h = some-by a false h ∙ and_false (has_sort_keys order p.0 a)
 
   module _ (order : List OrderBy) where
@@ -91,14 +91,14 @@ module _ {N : Type 0} (cmp : N → N → Ordering) (total : IsTotalOrder cmp) (e
     unfolding IsStrictlySortedBy
     sorted-placed [] = tt
     sorted-placed (e ∷ es) =
-        sorted-insert_key (tied_total cmp total) (place_by cmp order e.0 e.1) (placed_by cmp order es) (sorted-placed es)
+        sorted-insert_key (tied_total cmp total) (entry_by cmp order e.0 e.1) (placed_by cmp order es) (sorted-placed es)
 
     abbrev Stands : List (N × List Datum) → List SortKey × N → Type 0
     Stands rows p = stands_by cmp (placed_by cmp order rows) p ≡ has_sort_keys order p.0 (named cmp rows p.1)
 
     stands-by : (e : N × List Datum) (es : List (N × List Datum)) → IsStrictlySortedBy cmp (keys_of (e ∷ es))
         → (p : List SortKey × N) → Stands es p → (b : Bool) → is_at (cmp p.1) e.0 ≡ b
-        → cond (is_place_by cmp order e.0 (Some e.1) p) true (stands_by cmp (placed_by cmp order es) p)
+        → cond (is_entry_by cmp order e.0 (Some e.1) p) true (stands_by cmp (placed_by cmp order es) p)
         ≡ has_sort_keys order p.0 (cond b (Some e.1) (named cmp es p.1))
     stands-by e es s p h true x =
         let y : is_at (cmp e.0) p.1 ≡ true = (eq_by_cmp_equiv total).symm e.0 p.1 ∙ x in
@@ -116,40 +116,40 @@ module _ {N : Type 0} (cmp : N → N → Ordering) (total : IsTotalOrder cmp) (e
     stands-sorted [] s p = refl
     stands-sorted (e ∷ es) s p =
         let rest = stands-sorted es (sorted_tail cmp e.0 (keys_of es) s) p in
-        any-insert_key (tied_total cmp total) (place_by cmp order e.0 e.1) p (placed_by cmp order es)
+        any-insert_key (tied_total cmp total) (entry_by cmp order e.0 e.1) p (placed_by cmp order es)
         ∙ stands-by e es s p rest (is_at (cmp p.1) e.0) refl
 
     -- What is kept of rows is their places, sorted.
-    pub places-are : (places : List (List SortKey × N)) (rows : List (N × List Datum))
-        → IsStrictlySortedBy cmp (keys_of rows) → IsStrictlySortedBy (tied_cmp cmp) places
-        → KeepsBy cmp order places (named cmp rows) → places ≡ placed_by cmp order rows
-    places-are places rows up s k =
-        same-keys (tied_total cmp total) tied_exact places (placed_by cmp order rows) s (sorted-placed rows)
-        (λ p. k.places_are p ∙ sym (stands-sorted rows up p))
+    pub order_entries-are : (order_entries : List (List SortKey × N)) (rows : List (N × List Datum))
+        → IsStrictlySortedBy cmp (keys_of rows) → IsStrictlySortedBy (tied_cmp cmp) order_entries
+        → KeepsBy cmp order order_entries (named cmp rows) → order_entries ≡ placed_by cmp order rows
+    order_entries-are order_entries rows up s k =
+        same-keys (tied_total cmp total) tied_exact order_entries (placed_by cmp order rows) s (sorted-placed rows)
+        (λ p. k.entries_are p ∙ sym (stands-sorted rows up p))
 
     abbrev Fine : N × List Datum → Type 0
     Fine e = OrdersKeys order e.1
 
     abbrev placing : N × List Datum → List SortKey × N
-    placing e = place_by cmp order e.0 e.1
+    placing e = entry_by cmp order e.0 e.1
 
     abbrev by : N × List Datum → N × List Datum → Ordering
     by = then_cmp (on (λ e. e.1) (row_cmp order)) (λ a b. cmp a.0 b.0)
 
-    place-cmp : (a b : N × List Datum) → Fine a → Fine b → cmp a.0 b.0 ≡ Less
+    entry-cmp : (a b : N × List Datum) → Fine a → Fine b → cmp a.0 b.0 ≡ Less
         → tied_cmp cmp (placing a) (placing b) ≡ ordering_then (row_cmp order a.1 b.1) Less
-    place-cmp a b x y l = ap₂ ordering_then (sort-keys-cmp order a.1 b.1 x y) l
+    entry-cmp a b x y l = ap₂ ordering_then (sort-keys-cmp order a.1 b.1 x y) l
 
     abbrev IsPlaced : N × List Datum → List (N × List Datum) → Type 0
     IsPlaced e ys = insert_key (tied_cmp cmp) (map placing ys) (placing e) ≡ map placing (placed by e ys)
 
-    place-step : (e y : N × List Datum) (ys : List (N × List Datum)) → IsPlaced e ys → (r : Ordering)
+    entry-step : (e y : N × List Datum) (ys : List (N × List Datum)) → IsPlaced e ys → (r : Ordering)
         → match_ordering (ordering_then r Less) (placing e ∷ placing y ∷ map placing ys) (placing y ∷ map placing ys)
         (placing y ∷ insert_key (tied_cmp cmp) (map placing ys) (placing e))
         ≡ map placing (cond (is_gt (ordering_then r Less)) (y ∷ placed by e ys) (e ∷ y ∷ ys))
-    place-step e y ys h Less = refl
-    place-step e y ys h Equal = refl
-    place-step e y ys h Greater = ap (λ l. placing y ∷ l) h
+    entry-step e y ys h Less = refl
+    entry-step e y ys h Equal = refl
+    entry-step e y ys h Greater = ap (λ l. placing y ∷ l) h
 
     abbrev IsAbove : N → N × List Datum → Type 0
     IsAbove n y = Fine y × (cmp n y.0 ≡ Less)
@@ -158,7 +158,7 @@ module _ {N : Type 0} (cmp : N → N → Ordering) (total : IsTotalOrder cmp) (e
         → IsPlaced e ys
     insert-placed e x [] a = refl
     insert-placed e x (y ∷ ys) a =
-        rw (place-cmp e y x a.0.0 a.0.1, a.0.1) (place-step e y ys (insert-placed e x ys a.1) (row_cmp order e.1 y.1))
+        rw (entry-cmp e y x a.0.0 a.0.1, a.0.1) (entry-step e y ys (insert-placed e x ys a.1) (row_cmp order e.1 y.1))
 
     above : (n : N) (es : List (N × List Datum)) → AllByRecursion (λ m. cmp n m ≡ Less) (keys_of es)
         → AllByRecursion Fine es → AllByRecursion (IsAbove n) es
@@ -191,16 +191,16 @@ module _ {N : Type 0} (cmp : N → N → Ordering) (total : IsTotalOrder cmp) (e
         below (x ∷ xs) a = (a.0, below xs a.1)
 
     -- The rows of the names in the first places are the first of the sorted rows.
-    pub first-named : (places : List (List SortKey × N)) (rows : List (N × List Datum)) (n : ℕ)
-        → IsStrictlySortedBy cmp (keys_of rows) → IsStrictlySortedBy (tied_cmp cmp) places
-        → KeepsBy cmp order places (named cmp rows) → AllByRecursion Fine rows
-        → map (named cmp rows) (map (λ p. p.1) (take n places))
+    pub first-named : (order_entries : List (List SortKey × N)) (rows : List (N × List Datum)) (n : ℕ)
+        → IsStrictlySortedBy cmp (keys_of rows) → IsStrictlySortedBy (tied_cmp cmp) order_entries
+        → KeepsBy cmp order order_entries (named cmp rows) → AllByRecursion Fine rows
+        → map (named cmp rows) (map (λ p. p.1) (take n order_entries))
         ≡ map Some (take n (sorted (row_cmp order) (values_of rows)))
-    first-named places rows n up s k f =
+    first-named order_entries rows n up s k f =
         ap (λ l. map (named cmp rows) (map (λ p. p.1) (take n l)))
-        (places-are places rows up s k ∙ placed-sorted rows up f)
+        (order_entries-are order_entries rows up s k ∙ placed-sorted rows up f)
         ∙ read-back rows (sorted by rows) (all-sorted by (HasOwn cmp total rows) rows (own-entries cmp total rows up)) n
-        ∙ ap (λ l. map Some (take n l)) (sorted_by_place (λ e. e.1) (row_cmp order) (λ a b. cmp a.0 b.0) rows
+        ∙ ap (λ l. map Some (take n l)) (sorted_by_entry (λ e. e.1) (row_cmp order) (λ a b. cmp a.0 b.0) rows
         (by-names rows up))
 
   -- The delta law: places follow the rows of some names.
@@ -220,12 +220,12 @@ module _ {N : Type 0} (cmp : N → N → Ordering) (total : IsTotalOrder cmp) (e
   come false true = refl
   come false false = refl
 
-  module _ (order : List OrderBy) (places next : List (List SortKey × N)) (at : N → Option (List Datum)) (n : N)
-      (a : Option (List Datum)) (k : KeepsBy cmp order places at) where
-    own : (p : List SortKey × N) → is_at (cmp n) p.1 ≡ true → stands_by cmp places p
+  module _ (order : List OrderBy) (order_entries next : List (List SortKey × N)) (at : N → Option (List Datum)) (n : N)
+      (a : Option (List Datum)) (k : KeepsBy cmp order order_entries at) where
+    own : (p : List SortKey × N) → is_at (cmp n) p.1 ≡ true → stands_by cmp order_entries p
         ≡ has_sort_keys order p.0 (at n)
     own p h =
-        k.places_are p
+        k.entries_are p
         ∙ ap (λ m. has_sort_keys order p.0 (at m)) (sym (exact n p.1 ((Equal-is (cmp n p.1)).0 h)))
 
     has-cond : (p : List SortKey) (t : Bool) (x y : Option (List Datum))
@@ -236,36 +236,36 @@ module _ {N : Type 0} (cmp : N → N → Ordering) (total : IsTotalOrder cmp) (e
     -- The row of a name is taken away, if it has one, or it was before.
     pub keeps-without : (t : Bool) → at n ≡ cond t None a
         → ((p : List SortKey × N) → stands_by cmp next p
-        ≡ cond (is_place_by cmp order n a p) false (stands_by cmp places p))
+        ≡ cond (is_entry_by cmp order n a p) false (stands_by cmp order_entries p))
         → KeepsBy cmp order next (set_at n None at)
-    keeps-without t is f = record { places_are = λ p. f p ∙ go p (is_at (cmp n) p.1) refl }
+    keeps-without t is f = record { entries_are = λ p. f p ∙ go p (is_at (cmp n) p.1) refl }
       where
         go : (p : List SortKey × N) (b : Bool) → is_at (cmp n) p.1 ≡ b
-            → cond (is_place_by cmp order n a p) false (stands_by cmp places p)
+            → cond (is_entry_by cmp order n a p) false (stands_by cmp order_entries p)
             ≡ has_sort_keys order p.0 (cond b None (at p.1))
         go p true h =
             rw (some-here order n p a h, own p h, is, has-cond p.0 t None a) (gone t (has_sort_keys order p.0 a))
-        go p false h = rw (some-there order n p a h) (k.places_are p)
+        go p false h = rw (some-there order n p a h) (k.entries_are p)
 
     -- The row of a name is put in, if it has one, unless it was before.
     pub keeps-with : (t : Bool) → at n ≡ cond t a None
         → ((p : List SortKey × N) → stands_by cmp next p
-        ≡ cond (is_place_by cmp order n a p) true (stands_by cmp places p))
+        ≡ cond (is_entry_by cmp order n a p) true (stands_by cmp order_entries p))
         → KeepsBy cmp order next (set_at n a at)
-    keeps-with t is f = record { places_are = λ p. f p ∙ go p (is_at (cmp n) p.1) refl }
+    keeps-with t is f = record { entries_are = λ p. f p ∙ go p (is_at (cmp n) p.1) refl }
       where
         go : (p : List SortKey × N) (b : Bool) → is_at (cmp n) p.1 ≡ b
-            → cond (is_place_by cmp order n a p) true (stands_by cmp places p)
+            → cond (is_entry_by cmp order n a p) true (stands_by cmp order_entries p)
             ≡ has_sort_keys order p.0 (cond b a (at p.1))
         go p true h =
             rw (some-here order n p a h, own p h, is, has-cond p.0 t a None) (come t (has_sort_keys order p.0 a))
-        go p false h = rw (some-there order n p a h) (k.places_are p)
+        go p false h = rw (some-there order n p a h) (k.entries_are p)
 
   -- Where two say the same of each name, what is kept of one is kept of the other.
-  pub keeps-same : (order : List OrderBy) (places : List (List SortKey × N)) (at others : N → Option (List Datum))
-      → ((n : N) → at n ≡ others n) → KeepsBy cmp order places at → KeepsBy cmp order places others
-  keeps-same order places at others e k = record {
-    places_are = λ p. k.places_are p ∙ ap (has_sort_keys order p.0) (e p.1);
+  pub keeps-same : (order : List OrderBy) (order_entries : List (List SortKey × N)) (at others : N → Option (List Datum))
+      → ((n : N) → at n ≡ others n) → KeepsBy cmp order order_entries at → KeepsBy cmp order order_entries others
+  keeps-same order order_entries at others e k = record {
+    entries_are = λ p. k.entries_are p ∙ ap (has_sort_keys order p.0) (e p.1);
   }
 
   -- Names one after another
@@ -299,30 +299,30 @@ module _ {N : Type 0} (cmp : N → N → Ordering) (total : IsTotalOrder cmp) (e
     next m = list_any_more (is_at (cmp m)) ns i d below
 
     -- one more name whose row is taken away
-    pub without-more : (places after : List (List SortKey × N)) (at : N → Option (List Datum))
+    pub without-more : (order_entries after : List (List SortKey × N)) (at : N → Option (List Datum))
         → ((p : List SortKey × N) → stands_by cmp after p
-        ≡ cond (is_place_by cmp order (get_or ns i d) (at (get_or ns i d)) p) false (stands_by cmp places p))
-        → KeepsBy cmp order places (without cmp (take i ns) at)
+        ≡ cond (is_entry_by cmp order (get_or ns i d) (at (get_or ns i d)) p) false (stands_by cmp order_entries p))
+        → KeepsBy cmp order order_entries (without cmp (take i ns) at)
         → KeepsBy cmp order after (without cmp (take (i + 1) ns) at)
-    without-more places after at f k =
+    without-more order_entries after at f k =
         keeps-same order after (set_at (get_or ns i d) None (without cmp (take i ns) at))
         (without cmp (take (i + 1) ns) at)
         (pick-more (take i ns) (take (i + 1) ns) (get_or ns i d) (λ n. None) at next)
-        (keeps-without order places after (without cmp (take i ns) at) (get_or ns i d) (at (get_or ns i d)) k
+        (keeps-without order order_entries after (without cmp (take i ns) at) (get_or ns i d) (at (get_or ns i d)) k
         (list_any (is_at (cmp (get_or ns i d))) (take i ns)) refl f)
 
     -- one more name whose row is put in
-    pub with-more : (places after : List (List SortKey × N)) (at others : N → Option (List Datum))
+    pub with-more : (order_entries after : List (List SortKey × N)) (at others : N → Option (List Datum))
         → others (get_or ns i d) ≡ None
         → ((p : List SortKey × N) → stands_by cmp after p
-        ≡ cond (is_place_by cmp order (get_or ns i d) (at (get_or ns i d)) p) true (stands_by cmp places p))
-        → KeepsBy cmp order places (pick cmp (take i ns) at others)
+        ≡ cond (is_entry_by cmp order (get_or ns i d) (at (get_or ns i d)) p) true (stands_by cmp order_entries p))
+        → KeepsBy cmp order order_entries (pick cmp (take i ns) at others)
         → KeepsBy cmp order after (pick cmp (take (i + 1) ns) at others)
-    with-more places after at others none f k =
+    with-more order_entries after at others none f k =
         keeps-same order after (set_at (get_or ns i d) (at (get_or ns i d)) (pick cmp (take i ns) at others))
         (pick cmp (take (i + 1) ns) at others)
         (pick-more (take i ns) (take (i + 1) ns) (get_or ns i d) at others next)
-        (keeps-with order places after (pick cmp (take i ns) at others) (get_or ns i d) (at (get_or ns i d)) k
+        (keeps-with order order_entries after (pick cmp (take i ns) at others) (get_or ns i d) (at (get_or ns i d)) k
         (list_any (is_at (cmp (get_or ns i d))) (take i ns))
         (ap (λ o. cond (list_any (is_at (cmp (get_or ns i d))) (take i ns)) (at (get_or ns i d)) o) none) f)
 
@@ -338,12 +338,12 @@ module _ {N : Type 0} (cmp : N → N → Ordering) (total : IsTotalOrder cmp) (e
             ∙ or-true (is_at (cmp (get_or xs j d)) x)
 
   -- Where only rows of these names changed, the places of all rows are kept in the end.
-  pub all-picked : (order : List OrderBy) (ns : List N) (places : List (List SortKey × N))
+  pub all-picked : (order : List OrderBy) (ns : List N) (order_entries : List (List SortKey × N))
       (at before : N → Option (List Datum))
       → ((n : N) → list_any (is_at (cmp n)) ns ≡ false → at n ≡ before n)
-      → KeepsBy cmp order places (pick cmp ns at (without cmp ns before)) → KeepsBy cmp order places at
-  all-picked order ns places at before same k =
-      keeps-same order places (pick cmp ns at (without cmp ns before)) at
+      → KeepsBy cmp order order_entries (pick cmp ns at (without cmp ns before)) → KeepsBy cmp order order_entries at
+  all-picked order ns order_entries at before same k =
+      keeps-same order order_entries (pick cmp ns at (without cmp ns before)) at
       (λ n. go n (list_any (is_at (cmp n)) ns) refl) k
     where
       go : (n : N) (b : Bool) → list_any (is_at (cmp n)) ns ≡ b → cond b (at n) (cond b None (before n)) ≡ at n

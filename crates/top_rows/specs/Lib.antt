@@ -1,10 +1,10 @@
-pub mod OrderedPlaces
+pub mod OrderedEntries
 pub mod SortKeys
 pub mod InlineKeys
-pub mod PlaceOrder
+pub mod EntryOrder
 pub mod Ties
 pub mod Places
 pub mod Keeping
 pub mod OrderParts
-pub mod SortedPlaces
+pub mod SortedOrderEntries
 pub mod ViewOrder

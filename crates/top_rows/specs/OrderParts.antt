@@ -1,19 +1,19 @@
 -- Orders of rows taken apart.
 use Rattle.std.specs.List.Sorted.{IsStrictlySortedBy}
 use Rattle.std.specs.Prelude.{map}
-use Rattle.top_rows.specs.OrderedPlaces.{OrderedPlaces}
-use Rattle.top_rows.specs.PlaceOrder.{RowPlace, place_cmp}
+use Rattle.top_rows.specs.OrderedEntries.{OrderedEntries}
+use Rattle.top_rows.specs.EntryOrder.{RowEntry, entry_cmp}
 use Rattle.top_rows.specs.declared.parts.OrderedParts.{OrderedParts}
-use Rattle.top_rows.specs.declared.parts.PlaceParts.{PlaceParts}
+use Rattle.top_rows.specs.declared.parts.OrderEntryParts.{OrderEntryParts}
 
 -- the place that has these parts
-abbrev pub place_with : PlaceParts → RowPlace
-place_with p = (p.sort_keys.items, p.number)
+abbrev pub entry_with : OrderEntryParts → RowEntry
+entry_with p = (p.sort_keys.items, p.number)
 
 -- what is kept that has these parts
-abbrev pub ordered_with : OrderedParts → OrderedPlaces
-ordered_with p = record { order = p.order.items; places = map place_with p.places.items }
+abbrev pub ordered_with : OrderedParts → OrderedEntries
+ordered_with p = record { order = p.order.items; order_entries = map entry_with p.order_entries.items }
 
 -- The places ascend.
 abbrev pub AreAscending : OrderedParts → Type 0
-AreAscending p = IsStrictlySortedBy place_cmp (map place_with p.places.items)
+AreAscending p = IsStrictlySortedBy entry_cmp (map entry_with p.order_entries.items)

@@ -9,7 +9,7 @@ use Rattle.std.specs.Map.{lookup}
 use Rattle.std.specs.declared.cmp.Ordering.{Ordering}
 use Rattle.values.specs.Datum.{Datum}
 use Rattle.view_lang.specs.declared.view.OrderBy.{OrderBy}
-use Rattle.top_rows.specs.PlaceOrder.{sort_key_cmp, tied_cmp}
+use Rattle.top_rows.specs.EntryOrder.{sort_key_cmp, tied_cmp}
 use Rattle.top_rows.specs.SortKeys.{sort_keys_of}
 use Rattle.top_rows.specs.declared.sort_key.SortKey.{SortKey}
 
@@ -21,21 +21,21 @@ has_sort_keys order ps (Some row) = is_at (slice_cmp sort_key_cmp (sort_keys_of 
 module _ {N : Type 0} (cmp : N → N → Ordering) where
   -- whether a place is among some
   abbrev pub stands_by : List (List SortKey × N) → List SortKey × N → Bool
-  stands_by places p = list_any (is_at (tied_cmp cmp p)) places
+  stands_by order_entries p = list_any (is_at (tied_cmp cmp p)) order_entries
 
   -- the place of the row of a name
-  abbrev pub place_by : List OrderBy → N → List Datum → List SortKey × N
-  place_by order n row = (sort_keys_of order row, n)
+  abbrev pub entry_by : List OrderBy → N → List Datum → List SortKey × N
+  entry_by order n row = (sort_keys_of order row, n)
 
   -- whether a place is that of a name's row, if it has one
-  abbrev pub is_place_by : List OrderBy → N → Option (List Datum) → List SortKey × N → Bool
-  is_place_by order n None p = false
-  is_place_by order n (Some row) p = is_at (tied_cmp cmp (place_by order n row)) p
+  abbrev pub is_entry_by : List OrderBy → N → Option (List Datum) → List SortKey × N → Bool
+  is_entry_by order n None p = false
+  is_entry_by order n (Some row) p = is_at (tied_cmp cmp (entry_by order n row)) p
 
   -- A place is kept where the row of its name has its sort keys.
-  pub record KeepsBy (order : List OrderBy) (places : List (List SortKey × N)) (at : N → Option (List Datum)) : Type 0
+  pub record KeepsBy (order : List OrderBy) (order_entries : List (List SortKey × N)) (at : N → Option (List Datum)) : Type 0
     where
-      pub places_are : (p : List SortKey × N) → stands_by places p ≡ has_sort_keys order p.0 (at p.1)
+      pub entries_are : (p : List SortKey × N) → stands_by order_entries p ≡ has_sort_keys order p.0 (at p.1)
 
   -- the row of a name
   abbrev pub named : List (N × List Datum) → N → Option (List Datum)
@@ -44,7 +44,7 @@ module _ {N : Type 0} (cmp : N → N → Ordering) where
   -- the places of rows, each put before the first that isn't below it
   abbrev pub placed_by : List OrderBy → List (N × List Datum) → List (List SortKey × N)
   placed_by order [] = []
-  placed_by order (e ∷ es) = insert_key (tied_cmp cmp) (placed_by order es) (place_by order e.0 e.1)
+  placed_by order (e ∷ es) = insert_key (tied_cmp cmp) (placed_by order es) (entry_by order e.0 e.1)
 
   -- the row that one says a name has if the name is among some, else the row that the other says
   abbrev pub pick : List N → (N → Option (List Datum)) → (N → Option (List Datum)) → N → Option (List Datum)

@@ -12,14 +12,14 @@ use Rattle.view_lang.specs.Sorted.{sorted}
 use Rattle.view_lang.specs.Aggregates.{IsKeyCell}
 use Rattle.view_lang.specs.declared.view.OrderBy.{OrderBy}
 use Rattle.top_rows.specs.Keeping.{Keeps}
-use Rattle.top_rows.specs.OrderedPlaces.{OrderedPlaces}
+use Rattle.top_rows.specs.OrderedEntries.{OrderedEntries}
 
 -- What a row is ordered by is neither a list nor a struct.
 abbrev pub OrdersKeys : List OrderBy → List Datum → Type 0
 OrdersKeys order row = AllByRecursion (λ o. IsKeyCell (cell_at row o.column)) order
 
 -- Rows are kept whose numbers ascend, and what they are ordered by has an order.
-pub record IsKeptFor (kept : OrderedPlaces) (rows : NumberedRows) : Type 0 where
+pub record IsKeptFor (kept : OrderedEntries) (rows : NumberedRows) : Type 0 where
   pub ascending : IsStrictlySortedBy nat_cmp (keys_of rows)
   pub kept_rows : Keeps kept rows
   pub keys : AllByRecursion (λ e. OrdersKeys kept.order e.1) rows

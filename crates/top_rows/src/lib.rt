@@ -4,11 +4,11 @@
 //! (what a row is ordered by), and `specs/ViewOrder.antt` that its first places are the first rows of a view.
 #![tactic(auto)]
 
+mod entry;
 mod inline_kind;
 mod laws;
 mod ordered;
 mod parts;
-mod place;
 mod sort_key;
 mod sort_key_list;
 #[cfg(test)]
@@ -16,6 +16,6 @@ mod tests;
 
 pub use laws::order_law;
 pub use ordered::Ordered;
-pub use parts::{OrderedParts, PlaceParts};
+pub use parts::{OrderEntryParts, OrderedParts};
 pub use sort_key::SortKey;
 pub use sort_key_list::SortKeyList;

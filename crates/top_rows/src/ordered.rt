@@ -5,12 +5,12 @@ ghost use Rattle.std.specs.List.Sorted.{IsStrictlySortedBy};
 ghost use Rattle.view_lang.specs.Shifts.{FollowsShift, NumberedRows, shift};
 ghost use Rattle.top_rows.specs.Keeping.{Keeps};
 ghost use Rattle.top_rows.specs.OrderParts.{AreAscending, ordered_with};
-ghost use Rattle.top_rows.specs.PlaceOrder.{RowPlace, place_cmp};
-ghost use Rattle.top_rows.specs.Places.{is_place, is_place_of, stands};
+ghost use Rattle.top_rows.specs.EntryOrder.{RowEntry, entry_cmp};
+ghost use Rattle.top_rows.specs.Places.{is_entry, is_entry_of, stands};
 ghost use Rattle.top_rows.specs.ViewOrder.{AreFirst, IsKeptFor};
 
+use crate::entry::OrderEntry;
 use crate::parts::OrderedParts;
-use crate::place::Place;
 use std::alloc::{AllocError, Global};
 use std::collections::BTreeSet;
 use std::marker::Model;
@@ -21,22 +21,22 @@ use view_lang::{Change, OrderBy, RowChange, RowView, Upkeep};
 pub struct Ordered {
     alloc: Global,
     order: Vec<OrderBy>,
-    places: BTreeSet<Place>,
+    order_entries: BTreeSet<OrderEntry>,
 }
 
 impl Model for Ordered {
-    ghost use Rattle.top_rows.specs.OrderedPlaces.{OrderedPlaces};
+    ghost use Rattle.top_rows.specs.OrderedEntries.{OrderedEntries};
 
-    ghost Value = { OrderedPlaces };
+    ghost Value = { OrderedEntries };
 
-    ghost view = { λ o. record { order = o.order.items; places = o.places.keys } };
+    ghost view = { λ o. record { order = o.order.items; order_entries = o.order_entries.keys } };
 }
 
 impl Ordered {
     /// The order of no rows.
     pub fn new(alloc: Global, order: &[OrderBy]) -> Result<Ordered, AllocError>
         ensures order { IfOk result (λ ordered. ordered.order ≡ order.now) }
-        ensures none { IfOk result (λ ordered. ordered.places ≡ []) }
+        ensures none { IfOk result (λ ordered. ordered.order_entries ≡ []) }
         ensures kept { IfOk result (λ ordered. Keeps ordered []) }
     {
         let mut columns = Vec::new(alloc);
@@ -44,7 +44,7 @@ impl Ordered {
         Ok(Ordered {
             alloc,
             order: columns,
-            places: BTreeSet::new(alloc),
+            order_entries: BTreeSet::new(alloc),
         })
     }
 
@@ -56,15 +56,15 @@ impl Ordered {
         let Ordered {
             alloc,
             order,
-            places,
+            order_entries,
         } = self;
-        let mut taken = Vec::with_capacity(alloc, places.len())?;
-        for place in places {
-            taken.push(place.into_parts()?)?;
+        let mut taken = Vec::with_capacity(alloc, order_entries.len())?;
+        for entry in order_entries {
+            taken.push(entry.into_parts()?)?;
         }
         Ok(OrderedParts {
             order,
-            places: taken,
+            order_entries: taken,
         })
     }
 
@@ -73,47 +73,50 @@ impl Ordered {
         requires { AreAscending parts }
         ensures { IfOk result (λ ordered. ordered ≡ ordered_with parts) }
     {
-        let OrderedParts { order, places } = parts;
+        let OrderedParts {
+            order,
+            order_entries,
+        } = parts;
         let mut placed = BTreeSet::new(alloc);
-        for place in places {
-            placed.insert(Place::from_parts(alloc, place))?;
+        for entry in order_entries {
+            placed.insert(OrderEntry::from_parts(alloc, entry))?;
         }
         Ok(Ordered {
             alloc,
             order,
-            places: placed,
+            order_entries: placed,
         })
     }
 
     /// Inserts a row under its number. If memory is refused, nothing has changed.
     pub fn insert<R: RowView>(&mut self, number: usize, row: &R) -> Result<(), AllocError>
         ensures order { self.new.order ≡ self.old.order }
-        ensures places { OnOk result ((p : RowPlace) → stands self.new.places p
-            ≡ cond (is_place self.old.order number (R.cells row.now) p) true (stands self.old.places p)) }
+        ensures order_entries { OnOk result ((p : RowEntry) → stands self.new.order_entries p
+            ≡ cond (is_entry self.old.order number (R.cells row.now) p) true (stands self.old.order_entries p)) }
         ensures err { OnErr result (self.new ≡ self.old) }
     {
-        let place = Place::of(self.alloc, self.order.as_slice(), number, row)?;
-        self.places.insert(place)?;
+        let entry = OrderEntry::of(self.alloc, self.order.as_slice(), number, row)?;
+        self.order_entries.insert(entry)?;
         Ok(())
     }
 
     /// Removes a row, if it is there. The look-up takes memory; if that is refused, nothing has changed.
     pub fn remove<R: RowView>(&mut self, number: usize, row: &R) -> Result<(), AllocError>
         ensures order { self.new.order ≡ self.old.order }
-        ensures places { OnOk result ((p : RowPlace) → stands self.new.places p
-            ≡ cond (is_place self.old.order number (R.cells row.now) p) false (stands self.old.places p)) }
+        ensures order_entries { OnOk result ((p : RowEntry) → stands self.new.order_entries p
+            ≡ cond (is_entry self.old.order number (R.cells row.now) p) false (stands self.old.order_entries p)) }
         ensures err { OnErr result (self.new ≡ self.old) }
     {
-        let place = Place::of(self.alloc, self.order.as_slice(), number, row)?;
-        let _there = self.places.remove(&place);
+        let entry = OrderEntry::of(self.alloc, self.order.as_slice(), number, row)?;
+        let _there = self.order_entries.remove(&entry);
         Ok(())
     }
 
     fn remove_before(&mut self, changed: &RowChange) -> Result<(), AllocError>
         ensures order { self.new.order ≡ self.old.order }
-        ensures places { OnOk result ((p : RowPlace) → stands self.new.places p
-            ≡ cond (is_place_of self.old.order changed.now.number changed.now.before p) false
-            (stands self.old.places p)) }
+        ensures order_entries { OnOk result ((p : RowEntry) → stands self.new.order_entries p
+            ≡ cond (is_entry_of self.old.order changed.now.number changed.now.before p) false
+            (stands self.old.order_entries p)) }
     {
         match changed.before() {
             Some(row) => self.remove(changed.number(), &row),
@@ -123,9 +126,9 @@ impl Ordered {
 
     fn insert_after(&mut self, changed: &RowChange) -> Result<(), AllocError>
         ensures order { self.new.order ≡ self.old.order }
-        ensures places { OnOk result ((p : RowPlace) → stands self.new.places p
-            ≡ cond (is_place_of self.old.order changed.now.number changed.now.after p) true
-            (stands self.old.places p)) }
+        ensures order_entries { OnOk result ((p : RowEntry) → stands self.new.order_entries p
+            ≡ cond (is_entry_of self.old.order changed.now.number changed.now.after p) true
+            (stands self.old.order_entries p)) }
     {
         match changed.after() {
             Some(row) => self.insert(changed.number(), &row),
@@ -169,17 +172,17 @@ impl Ordered {
 
     /// The numbers of the first rows, at most `most` of them.
     pub fn first(&self, alloc: Global, most: usize) -> Result<Vec<usize>, AllocError>
-        ensures ascending { IsStrictlySortedBy place_cmp self.now.places }
+        ensures ascending { IsStrictlySortedBy entry_cmp self.now.order_entries }
         ensures numbers { IfOk result (λ numbers.
-            numbers.items ≡ map (λ (p : RowPlace). p.1) (take most self.now.places)) }
+            numbers.items ≡ map (λ (p : RowEntry). p.1) (take most self.now.order_entries)) }
     {
-        let _size = self.places.len();
+        let _size = self.order_entries.len();
         let mut numbers = Vec::new(alloc);
-        for place in self.places.iter() {
+        for entry in self.order_entries.iter() {
             if numbers.len() == most {
                 break;
             }
-            numbers.push(place.number())?;
+            numbers.push(entry.number())?;
         }
         Ok(numbers)
     }

@@ -7,12 +7,12 @@ use view_lang::OrderBy;
 #[derive(Debug, Drop)]
 pub struct OrderedParts {
     pub order: Vec<OrderBy>,
-    pub places: Vec<PlaceParts>,
+    pub order_entries: Vec<OrderEntryParts>,
 }
 
 /// The place of a row: its sort key for each of the order's columns, and its number.
 #[derive(Debug, Drop)]
-pub struct PlaceParts {
+pub struct OrderEntryParts {
     pub sort_keys: Vec<SortKey>,
     pub number: usize,
 }

@@ -40,7 +40,7 @@ impl Model for SortKeyList {
 impl PartialEq for SortKeyList {
     ghost use Rattle.std.specs.Cmp.{eq_by_cmp_equiv, partial_equiv_from_equiv};
     ghost use Rattle.std.specs.Ordering.{eq_by_cmp};
-    ghost use Rattle.top_rows.specs.PlaceOrder.{sort_keys_cmp, sort_keys_total};
+    ghost use Rattle.top_rows.specs.EntryOrder.{sort_keys_cmp, sort_keys_total};
 
     ghost eq = { eq_by_cmp sort_keys_cmp };
 
@@ -53,7 +53,7 @@ impl PartialEq for SortKeyList {
 
 impl Eq for SortKeyList {
     ghost use Rattle.std.specs.Cmp.{eq_by_cmp_equiv};
-    ghost use Rattle.top_rows.specs.PlaceOrder.{sort_keys_total};
+    ghost use Rattle.top_rows.specs.EntryOrder.{sort_keys_total};
 
     ghost laws = { eq_by_cmp_equiv sort_keys_total };
 }
@@ -61,7 +61,7 @@ impl Eq for SortKeyList {
 impl PartialOrd for SortKeyList {
     ghost use Rattle.std.specs.Cmp.{partial_order_from_total};
     ghost use Rattle.std.specs.Ordering.{as_partial_cmp};
-    ghost use Rattle.top_rows.specs.PlaceOrder.{sort_keys_cmp, sort_keys_total};
+    ghost use Rattle.top_rows.specs.EntryOrder.{sort_keys_cmp, sort_keys_total};
 
     ghost partial_cmp = { as_partial_cmp sort_keys_cmp };
 
@@ -75,7 +75,7 @@ impl PartialOrd for SortKeyList {
 #[tactic(auto, using(crate::proofs::InlineKeys::listed_cmp))]
 impl Ord for SortKeyList {
     ghost use Rattle.std.specs.Prelude.{refl};
-    ghost use Rattle.top_rows.specs.PlaceOrder.{sort_keys_cmp, sort_keys_total};
+    ghost use Rattle.top_rows.specs.EntryOrder.{sort_keys_cmp, sort_keys_total};
 
     ghost cmp = { sort_keys_cmp };
 

@@ -49,7 +49,7 @@ fn makes_an_order_of_its_parts(rt: HostRuntime) -> Result<(), Fail> {
     ordered.insert(2, &row(rt.alloc(), Kind::Int(9))?.as_slice())?;
     ordered.insert(3, &row(rt.alloc(), Kind::Int(7))?.as_slice())?;
     let parts = ordered.into_parts()?;
-    assert_eq!(rt; parts.places.len(), 3);
+    assert_eq!(rt; parts.order_entries.len(), 3);
     let made = Ordered::from_parts(rt.alloc(), parts)?;
     assert_eq!(rt; made.first(rt.alloc(), 3)?.as_slice(), [3, 2, 1].as_slice());
     Ok(())

@@ -66,7 +66,7 @@ use Rattle.view_lang.specs.declared.filter.Operand.TheVariants as operand
 use Rattle.view_lang.specs.Joined.{Side, joined_by, joined_row, looked_up, or_missing}
 use Rattle.view_lang.specs.Outputs.{Outputs, columns, groups}
 use Rattle.view_lang.specs.Truth.{is_true, passes, truth}
-use Rattle.view_lang.specs.Views.{kept_row, shown_row}
+use Rattle.view_lang.specs.Views.{passing_row, shown_row}
 use Rattle.view_lang.specs.declared.view.Lookup.{Lookup}
 use Rattle.column_truths.specs.RowTruths.{AreWithin, IsWithin, OperandIsWithin, TruthIsOfFirstCells, row_at as cells_of_row, truths_in}
 use Rattle.sub_groups.specs.FilterParts.{
@@ -331,7 +331,7 @@ made-none (columns outputs) o is = ap (option_map (shown_row outputs)) is
 made-none (groups by outputs having) o is = is
 
 pub made_none : (v : View) (side : Side) (row : List Datum) → IsDropped v row → projected_row v side row ≡ None
-made_none v side row dropped = made-none v.outputs (kept_row v side row) (dropped side)
+made_none v side row dropped = made-none v.outputs (passing_row v side row) (dropped side)
 
 -- What links keep of it
 pub dropped_link :

@@ -12,7 +12,7 @@ use Rattle.row_keys.specs.Store.{Store}
 use Rattle.row_keys.specs.declared.faults.EditFault.{EditFault}
 use Rattle.upkeep.specs.LiveParts.{AreOf}
 use Rattle.upkeep.specs.Stores.{HaveSameRows, rows_at, rows_in, tables_in}
-use Rattle.upkeep.specs.StoreLaws.{rows_length, rows_placed, rows_set, rows_there, table_there, tables_length}
+use Rattle.upkeep.specs.StoreLaws.{rows_length, rows_located, rows_set, rows_there, table_there, tables_length}
 use Rattle.row_keys.specs.TableChanges.{CanGoBack, Makes}
 use Rattle.row_keys.specs.declared.table_change.TableChange.{TableChange}
 
@@ -21,7 +21,7 @@ pub rows_now : (stores : List Store) (n : ℕ) (t : Store) → n < length stores
     → rows_at (rows_in (slice_set stores n t)) n ≡ t.slots
 rows_now stores n t below =
     let many = rows_length stores in
-    ap (λ rs. rows_at rs n) (rows_set stores n t) ∙ rows_placed (rows_in stores) n t.slots (omega (arith, below, many))
+    ap (λ rs. rows_at rs n) (rows_set stores n t) ∙ rows_located (rows_in stores) n t.slots (omega (arith, below, many))
 
 pub others_same : (stores : List Store) (n : ℕ) (t : Store) → n < length stores
     → rows_in (slice_set stores n t) ≡ slice_set (rows_in stores) n (rows_at (rows_in (slice_set stores n t)) n)

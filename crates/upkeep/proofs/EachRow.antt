@@ -27,7 +27,7 @@ use Rattle.view_lang.specs.declared.view.Missing.TheVariants as missing
 use Rattle.view_lang.specs.declared.view.OrderBy.{OrderBy}
 use Rattle.view_lang.proofs.OwnEntries.{HasOwn, own-entries}
 use Rattle.lookups.specs.Keeping.{Keeps as KeepsReferrers}
-use Rattle.top_rows.specs.OrderedPlaces.{OrderedPlaces}
+use Rattle.top_rows.specs.OrderedEntries.{OrderedEntries}
 use Rattle.row_keys.specs.Numbered.{numbered}
 use Rattle.row_keys.specs.Slots.{Slot, live}
 use Rattle.upkeep.specs.Reading.{AreShown, IsReadable, LiveAreShown}
@@ -168,7 +168,7 @@ live_asked law v slots there most numbers same asked first tables side is =
     (law tables v side slots is)
 
 -- an order is kept of plain views alone
-pub order_is_plain : (Each : Type 0) (os : Outputs) (order : List OrderBy) (o : OrderedPlaces) (rows : NumberedRows)
+pub order_is_plain : (Each : Type 0) (os : Outputs) (order : List OrderBy) (o : OrderedEntries) (rows : NumberedRows)
     → IsMaterializedBy Each (kept.Order o) os order rows → is_plain os ≡ true
 order_is_plain Each (columns outs) order o rows k = refl
 order_is_plain Each (groups by outs having) order o rows k = absurd k

@@ -36,7 +36,7 @@ use Rattle.std.specs.List.Sorted.{IsStrictlySortedBy}
 use Rattle.std.specs.Ordering.{nat_cmp}
 use Rattle.std.specs.Prelude.{OnOk, count_by, slice_set}
 use Rattle.std.proofs.lemmas.List.{length-map}
-use Rattle.values.specs.KeyOrder.{KeysStandInOrder}
+use Rattle.values.specs.KeyOrder.{KeysAreOrdered}
 use Rattle.values.specs.Keys.{datum_of_key}
 use Rattle.values.specs.declared.key.Key.{Key}
 use Rattle.std.proofs.lemmas.Bool.{eqb-true, true≢false}
@@ -158,7 +158,7 @@ sides_swapped tables (Some l) n u c rows below look d other =
 pub record Laws : Type 0 where
   pub fits : ImageFits
   pub at : ImageAt
-  pub keys : KeysStandInOrder
+  pub keys : KeysAreOrdered
   pub ascend : NumbersAscend
   pub live : RowsAreLive
   pub numbers : RowsAreAtNumbers

@@ -12,7 +12,7 @@ use Rattle.view_lang.specs.ConfigRules.{IsLookup}
 use Rattle.view_lang.specs.TableRules.{IsSideTable}
 use Rattle.view_lang.specs.Joined.{Side, joined, joined_by, joined_row, looked_up, side_of}
 use Rattle.view_lang.specs.Truth.{passes}
-use Rattle.view_lang.specs.Views.{kept_row, side_in}
+use Rattle.view_lang.specs.Views.{passing_row, side_in}
 use Rattle.view_lang.specs.World.{contents_at, table_at}
 use Rattle.view_lang.specs.declared.view.Lookup.{Lookup}
 use Rattle.row_keys.specs.Slots.{contents_of}
@@ -46,7 +46,7 @@ side_found stores n s row k cell found is below there same =
 pub row_kept :
     (v : View) (side : Side) (row : List Datum) (cells joined : Option (List Datum)) (r : List Datum) (b : Bool)
     → cells ≡ looked_up v.lookup side row → joined ≡ joined_by v.lookup row cells → joined ≡ Some r
-    → b ≡ passes v.filter r → cond b (Some r) None ≡ kept_row v side row
+    → b ≡ passes v.filter r → cond b (Some r) None ≡ passing_row v side row
 unfolding joined_row
 row_kept v side row cells joined r b looked made some passed =
     let whole : joined_by v.lookup row (looked_up v.lookup side row) ≡ Some r =
@@ -57,7 +57,7 @@ row_kept v side row cells joined r b looked made some passed =
 pub row_dropped :
     (v : View) (side : Side) (row : List Datum) (cells joined : Option (List Datum))
     → cells ≡ looked_up v.lookup side row → joined ≡ joined_by v.lookup row cells → joined ≡ None
-    → None ≡ kept_row v side row
+    → None ≡ passing_row v side row
 unfolding joined_row
 row_dropped v side row cells joined looked made none =
     let whole : joined_by v.lookup row (looked_up v.lookup side row) ≡ None =

@@ -12,12 +12,12 @@ use Rattle.view_lang.specs.ConfigRules.{AreOutputs, IsLookup, IsOutput, IsView}
 use Rattle.view_lang.specs.Joined.{Side, joined_by, joined_row, looked_up, or_missing}
 use Rattle.view_lang.specs.Outputs.{Output, Outputs, columns}
 use Rattle.view_lang.specs.ViewColumns.{joined_columns}
-use Rattle.view_lang.specs.Views.{kept_row, shown_row, side_in, view_rows}
+use Rattle.view_lang.specs.Views.{passing_row, shown_row, side_in, view_rows}
 use Rattle.view_lang.specs.World.{table_at}
 use Rattle.view_lang.specs.declared.view.Lookup.{Lookup}
 use Rattle.view_lang.specs.declared.view.Missing.{Missing}
 use Rattle.view_lang.specs.declared.view.Missing.TheVariants as missing
-use Rattle.row_keys.specs.Places.{row_if}
+use Rattle.row_keys.specs.Locations.{row_if}
 use Rattle.row_keys.specs.Slots.{IsLiveAt, Slot, live, row_of}
 use Rattle.row_keys.specs.Store.{Store}
 use Rattle.upkeep.specs.Inputs.{side_from}
@@ -109,7 +109,7 @@ module _ (stores : List Store) (v : View) (l : Lookup) (outputs : List Output) (
       let there : cells ≡ cells_if (looked_up (Some l) (side_from stores v) row) =
       row_if_is sides o (row_beside stores l n) found ∙ ap (λ (s : Side). cells_if (looked_up (Some l) s row)) (sym side_is) in
       made_of v (side_from stores v) row made.0 (picked (map column_of outputs) (row ++ cells)) v.outputs outputs
-      (kept_row v (side_from stores v) row) plain refl
+      (passing_row v (side_from stores v) row) plain refl
       (λ joined is. joined_shown l v.lookup (side_from stores v) row joined outputs looks is
       ∙ ap (λ more. picked (map column_of outputs) (row ++ more)) (sym there)) made.1
 

@@ -31,10 +31,10 @@ use Rattle.group_state.specs.Groups.{KeepsAt}
 use Rattle.group_state.specs.Keys.{key_in, tuple_cmp}
 use Rattle.group_state.specs.Rows.{cells}
 use Rattle.group_state.specs.Tuples.{has_tuple, members, tuple_of}
-use Rattle.group_state.specs.declared.kept_columns.KeptColumn.{KeptColumn}
+use Rattle.group_state.specs.declared.accumulated_columns.AccumulatedColumn.{AccumulatedColumn}
 use Rattle.top_rows.specs.Keeping.{Keeps as KeepsOrder}
-use Rattle.top_rows.specs.OrderedPlaces.{OrderedPlaces}
-use Rattle.top_rows.specs.PlaceOrder.{sort_key_cmp}
+use Rattle.top_rows.specs.OrderedEntries.{OrderedEntries}
+use Rattle.top_rows.specs.EntryOrder.{sort_key_cmp}
 use Rattle.top_rows.specs.SortKeys.{sort_key_of, sort_keys_of}
 use Rattle.top_rows.specs.Ties.{has_sort_keys}
 use Rattle.top_rows.specs.declared.sort_key.SortKey.{SortKey}
@@ -56,11 +56,11 @@ same_keys (o ∷ os) a b same =
     (ap (sort_key_of o.direction) (All-head (λ (x : OrderBy). cell_at a x.column ≡ cell_at b x.column) o os same))
     (same_keys os a b (All-tail (λ (x : OrderBy). cell_at a x.column ≡ cell_at b x.column) o os same))
 
-pub order_alike : (o : OrderedPlaces) (n : ℕ) (a b : List Datum) (rows : NumberedRows) → AreUp rows
+pub order_alike : (o : OrderedEntries) (n : ℕ) (a b : List Datum) (rows : NumberedRows) → AreUp rows
     → row_at n rows ≡ Some a → sort_keys_of o.order a ≡ sort_keys_of o.order b → KeepsOrder o rows
     → KeepsOrder o (with_at n (Some b) rows)
 order_alike o n a b rows up here same keeps = record {
-  places_are = λ p. keeps.places_are p ∙ by p.0 p.1 (is_at (nat_cmp n) p.1) refl
+  entries_are = λ p. keeps.entries_are p ∙ by p.0 p.1 (is_at (nat_cmp n) p.1) refl
       ∙ ap (has_sort_keys o.order p.0) (sym (lookup-with_at n p.1 (Some b) rows up));
 }
   where
@@ -107,14 +107,14 @@ module _ (R : List Datum → List Datum → Type 0) (itself : (r : List Datum) �
         replaced_by e es up (replaced es (sorted_tail nat_cmp e.0 (keys_of es) up)) (nat_cmp n e.0) refl here
 
 -- Two rows have the same tuple, and the same cells in the columns that are kept.
-pub record AreGroupedAlike (by : List ℕ) (kept : List KeptColumn) (a b : List Datum) : Type 0 where
+pub record AreGroupedAlike (by : List ℕ) (kept : List AccumulatedColumn) (a b : List Datum) : Type 0 where
   pub tuple : tuple_of by a ≡ tuple_of by b
   pub cells_are : All (λ c. cell_at a c.column ≡ cell_at b c.column) kept
 
-itself_alike : (by : List ℕ) (kept : List KeptColumn) (r : List Datum) → AreGroupedAlike by kept r r
+itself_alike : (by : List ℕ) (kept : List AccumulatedColumn) (r : List Datum) → AreGroupedAlike by kept r r
 itself_alike by kept r = record { tuple = refl; cells_are = λ k d below. refl }
 
-module _ (by : List ℕ) (kept : List KeptColumn) where
+module _ (by : List ℕ) (kept : List AccumulatedColumn) where
   members_alike : (t : List Key) (xs ys : List (List Datum)) → Each (AreGroupedAlike by kept) xs ys
       → Each (AreGroupedAlike by kept) (members by t xs) (members by t ys)
   members_alike t [] [] each = tt
@@ -139,7 +139,7 @@ module _ (by : List ℕ) (kept : List KeptColumn) where
   column_alike k (x ∷ xs) [] each = absurd each
   column_alike k (x ∷ xs) (y ∷ ys) each = ap₂ (λ c cs. c ∷ cs) each.0 (column_alike k xs ys each.1)
 
-  each_cell : (i : ℕ) (c : KeptColumn) → i < length kept → (xs ys : List (List Datum))
+  each_cell : (i : ℕ) (c : AccumulatedColumn) → i < length kept → (xs ys : List (List Datum))
       → Each (AreGroupedAlike by kept) xs ys
       → Each (λ a b. cell_at a (slice_index_or kept i c).column ≡ cell_at b (slice_index_or kept i c).column) xs ys
   each_cell i c below [] [] each = tt
@@ -172,7 +172,7 @@ pub groups_alike : (g : Ranked) (n : ℕ) (a b : List Datum) (rows : NumberedRow
     → KeepsRanked g (values_of rows) → KeepsRanked g (values_of (with_at n (Some b) rows))
 groups_alike g n a b rows up here alike keeps =
     let by : List ℕ = g.groups.keys in
-    let columns : List KeptColumn = g.groups.columns in
+    let columns : List AccumulatedColumn = g.groups.columns in
     let each = replaced (AreGroupedAlike by columns) (itself_alike by columns) n a b alike rows up here in
     record {
       groups_are = record {
@@ -194,7 +194,7 @@ same_tuple (k ∷ ks) a b same =
 -- What is kept of a view
 
 order_kept :
-    (Shows : Type 0) (outs : List Output) (order : List OrderBy) (o : OrderedPlaces) (n : ℕ) (a b : List Datum)
+    (Shows : Type 0) (outs : List Output) (order : List OrderBy) (o : OrderedEntries) (n : ℕ) (a b : List Datum)
     (rows : NumberedRows)
     → All (λ by. cell_at (shown_row outs a) by.column ≡ cell_at (shown_row outs b) by.column) order → AreUp rows
     → row_at n rows ≡ Some (shown_row outs a) → IsMaterializedBy Shows (kept.Order o) (columns outs) order rows
@@ -260,10 +260,10 @@ alike_by Shows (groups by outputs having) order (kept.Order o) n a b rows alike 
     absurd (true≢false (sym alike))
 alike_by Shows (groups by outputs having) order (kept.Groups g) n a b rows alike up here keeps =
     let none = both_not (list_any (differ_in a b) by)
-    (list_any (λ (c : KeptColumn). differ_in a b c.column) g.groups.columns) alike in
+    (list_any (λ (c : AccumulatedColumn). differ_in a b c.column) g.groups.columns) alike in
     groups_kept Shows by outputs having order g n a b rows
     (all_same (λ k. cell_at a k) (λ k. cell_at b k) by none.0)
-    (all_same (λ (c : KeptColumn). cell_at a c.column) (λ (c : KeptColumn). cell_at b c.column) g.groups.columns
+    (all_same (λ (c : AccumulatedColumn). cell_at a c.column) (λ (c : AccumulatedColumn). cell_at b c.column) g.groups.columns
     none.1) up here keeps
 
 -- Where the same is kept of what a view made of a row and of what it makes of it, what is kept stays as it is.

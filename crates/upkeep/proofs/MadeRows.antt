@@ -48,11 +48,11 @@ use Rattle.view_lang.specs.Shifts.{NumberedRows, row_at}
 use Rattle.view_lang.specs.Sorted.{sorted}
 use Rattle.view_lang.specs.Sums.{CanSum}
 use Rattle.view_lang.specs.ViewLaws.{KeptOneByOne, ShownOneByOne}
-use Rattle.view_lang.specs.Views.{first_of, kept_row, output_rows, shown_row, shown_rows, view_input, view_rows}
+use Rattle.view_lang.specs.Views.{first_of, output_rows, passing_row, shown_row, shown_rows, view_input, view_rows}
 use Rattle.group_order.specs.Ranked.{Keeps as KeepsRanked, Ranked, Ranking, ranked_rows, ranking_by}
 use Rattle.group_state.specs.Reading.{CanReadAll}
 use Rattle.top_rows.specs.Keeping.{Keeps as KeepsOrder}
-use Rattle.top_rows.specs.OrderedPlaces.{OrderedPlaces}
+use Rattle.top_rows.specs.OrderedEntries.{OrderedEntries}
 use Rattle.top_rows.specs.ViewOrder.{AreFirst, IsKeptFor, OrdersKeys}
 use Rattle.row_keys.specs.NumberLaws.{NumbersAscend, RowsAreAtNumbers, RowsAreLive}
 use Rattle.row_keys.specs.Numbered.{live_at, numbered}
@@ -94,16 +94,16 @@ made_rows (groups by outputs having) rows = rows
 module _ (laws : Laws) where
   made_each :
       (os : Outputs) (v : View) (side : Side) (rows : List (List Datum))
-      → filter_map (λ row. projected_by os (kept_row v side row)) rows ≡ made_rows os (view_input v side rows)
+      → filter_map (λ row. projected_by os (passing_row v side row)) rows ≡ made_rows os (view_input v side rows)
   made_each (columns outputs) v side rows = laws.shown v outputs side rows
   made_each (groups by outputs having) v side rows = laws.kept v side rows
 
   pub made_values :
       (os : Outputs) (v : View) (side : Side) (slots : List Slot)
-      → values_of (image (λ row. projected_by os (kept_row v side row)) (numbered slots))
+      → values_of (image (λ row. projected_by os (passing_row v side row)) (numbered slots))
       ≡ made_rows os (view_input v side (live slots))
   made_values os v side slots =
-      let make : List Datum → Option (List Datum) = λ row. projected_by os (kept_row v side row) in
+      let make : List Datum → Option (List Datum) = λ row. projected_by os (passing_row v side row) in
       laws.values make (numbered slots) ∙ ap (filter_map make) (laws.live slots) ∙ made_each os v side (live slots)
 
 -- Rows by number
@@ -179,7 +179,7 @@ pub first_taken : {X : Type 0} (first : Option ℕ) (most : ℕ) (xs : List X) �
 first_taken None most xs is few = take_all most xs (omega (arith, is, few))
 first_taken (Some n) most xs is few = ap (λ m. take m xs) is
 
-record IsPlain (v : View) (side : Side) (slots : List Slot) (o : OrderedPlaces) (es : NumberedRows) : Type 0 where
+record IsPlain (v : View) (side : Side) (slots : List Slot) (o : OrderedEntries) (es : NumberedRows) : Type 0 where
   order : o.order ≡ v.order
   keeps : KeepsOrder o es
   outputs : values_of es ≡ output_rows v.outputs (view_input v side (live slots))
@@ -207,9 +207,9 @@ module _ (laws : Laws) where
       (λ n. projected_row v side (row_of slots n)) (IsMadeAt v side slots) (made_there v side slots) numbers rows same
 
   plain_by :
-      (Each : Type 0) (v : View) (side : Side) (slots : List Slot) (os : Outputs) (o : OrderedPlaces) → v.outputs ≡ os
-      → IsMaterializedBy Each (kept.Order o) os v.order (image (λ row. projected_by os (kept_row v side row)) (numbered slots))
-      → IsPlain v side slots o (image (λ row. projected_by os (kept_row v side row)) (numbered slots))
+      (Each : Type 0) (v : View) (side : Side) (slots : List Slot) (os : Outputs) (o : OrderedEntries) → v.outputs ≡ os
+      → IsMaterializedBy Each (kept.Order o) os v.order (image (λ row. projected_by os (passing_row v side row)) (numbered slots))
+      → IsPlain v side slots o (image (λ row. projected_by os (passing_row v side row)) (numbered slots))
   unfolding output_rows
   plain_by Each v side slots (columns outputs) o same k = record {
     order = k.0;
@@ -219,7 +219,7 @@ module _ (laws : Laws) where
   }
   plain_by Each v side slots (groups by outputs having) o same k = absurd k
 
-  module _ (tables : List Table) (v : View) (side : Side) (slots : List Slot) (o : OrderedPlaces)
+  module _ (tables : List Table) (v : View) (side : Side) (slots : List Slot) (o : OrderedEntries)
       (is : Viewed tables v side (live slots))
       (k : IsMaterialized v (kept.Order o) (image (projected_row v side) (numbered slots))) where
     plain : IsPlain v side slots o (image (projected_row v side) (numbered slots))
@@ -260,7 +260,7 @@ module _ (laws : Laws) where
   groups_by :
       (Each : Type 0) (tables : List Table) (v : View) (side : Side) (slots : List Slot) (os : Outputs) (g : Ranked)
       (made : List (List Datum)) → v.outputs ≡ os → Viewed tables v side (live slots)
-      → IsMaterializedBy Each (kept.Groups g) os v.order (image (λ row. projected_by os (kept_row v side row)) (numbered slots))
+      → IsMaterializedBy Each (kept.Groups g) os v.order (image (λ row. projected_by os (passing_row v side row)) (numbered slots))
       → ((rows : List (List Datum)) → KeepsRanked g rows
       → CanReadAll g.groups.keys g.groups.columns g.ranking.outputs rows
       → made ≡ take (unwrap_or v.first max_main_rows) (ranked_rows g.groups.keys g.ranking rows))
@@ -301,7 +301,7 @@ firsts_are_shown laws tables v side slots o numbers is first =
 
 -- the first numbers, however the view's own was read
 pub firsts_asked :
-    (law : FirstsAreShown) (v : View) (o : OrderedPlaces) (most : ℕ) (numbers : List ℕ)
+    (law : FirstsAreShown) (v : View) (o : OrderedEntries) (most : ℕ) (numbers : List ℕ)
     → most ≡ unwrap_or v.first max_main_rows
     → ((rows : NumberedRows) → IsKeptFor o rows → AreFirst o.order most rows numbers)
     → (tables : List Table) (side : Side) (slots : List Slot) → IsReadable tables v side slots (kept.Order o)

@@ -37,20 +37,20 @@ use Rattle.row_keys.specs.NumberLaws.{
   NewCome,
   PutBackCome,
   RetractedGo,
+  RevertedGo,
   RowsAreLive,
-  TakenBackGo,
   with_new,
 }
 use Rattle.row_keys.specs.Slots.{
   CanPutBack,
   CanRetract,
-  CanTakeBack,
+  CanRevert,
   Slot,
   contents_of,
   live,
   put_back,
   retracted,
-  taken_back,
+  reverted,
 }
 use Rattle.row_keys.specs.Store.{Refuses, Store, live_in, with_slots}
 use Rattle.row_keys.specs.declared.faults.EditFault.{EditFault}
@@ -414,29 +414,29 @@ put_back_live come_law stores mid views vs states now s u v ns same are is can k
 -- The last rows, which go.
 
 pub take_back_needs :
-    RowsAreLive → TakenBackGo → (stores : List Store) (views vs : List View) (states : List ViewState)
+    RowsAreLive → RevertedGo → (stores : List Store) (views vs : List View) (states : List ViewState)
     (s : Store) (n : ℕ) → vs ≡ views → AreLive stores views states → s ≡ get_or stores 0 s
-    → CanTakeBack n (rows_at (rows_in stores) 0) → IsTable s.table → length (live_in s) ≤ s.table.max_rows
+    → CanRevert n (rows_at (rows_in stores) 0) → IsTable s.table → length (live_in s) ≤ s.table.max_rows
     → (x : NumberedRows)
     × (EachIsCurrent (tables_in stores) (rows_in stores) x vs states
     × (Fits x (turned_last turn.Go (rows_at (rows_in stores) 0) n) × (length x ≤ max_main_rows)))
 take_back_needs live_law go_law stores views vs states s n same are is can right few =
-    let can_here : CanTakeBack n s.slots = subst (CanTakeBack n) (rows_there stores 0 s is are.these.main) can in
-    there_needs stores views vs states s (numbered (taken_back n s.slots))
+    let can_here : CanRevert n s.slots = subst (CanRevert n) (rows_there stores 0 s is are.these.main) can in
+    there_needs stores views vs states s (numbered (reverted n s.slots))
     (λ (ss : List Slot). turned_last turn.Go ss n) (λ (ss : List Slot) (x : NumberedRows). length x ≤ max_main_rows)
     same are is (go_law n s.slots can_here) (live_few live_law s.table s.slots right few)
 
 pub take_back_live :
-    TakenBackGo → (stores mid : List Store) (views vs : List View) (states now : List ViewState) (s u v : Store)
+    RevertedGo → (stores mid : List Store) (views vs : List View) (states now : List ViewState) (s u v : Store)
     (n : ℕ) → vs ≡ views → AreLive stores views states → s ≡ get_or stores 0 s
-    → CanTakeBack n (rows_at (rows_in stores) 0)
+    → CanRevert n (rows_at (rows_in stores) 0)
     → ((x : NumberedRows) → Fits x (turned_last turn.Go (rows_at (rows_in stores) 0) n)
     → EachIsCurrent (tables_in stores) (rows_in stores) x vs states
     → EachIsCurrent (tables_in stores) (rows_in stores)
     (patched x (turned_last turn.Go (rows_at (rows_in stores) 0) n)) vs now)
     → tables_in mid ≡ tables_in stores → rows_in mid ≡ rows_in stores → u ≡ get_or mid 0 u
-    → v ≡ with_slots u (taken_back n u.slots) → AreLive (slice_set mid 0 v) views now
+    → v ≡ with_slots u (reverted n u.slots) → AreLive (slice_set mid 0 v) views now
 take_back_live go_law stores mid views vs states now s u v n same are is can kept tables rows there done =
-    let can_here : CanTakeBack n s.slots = subst (CanTakeBack n) (rows_there stores 0 s is are.these.main) can in
+    let can_here : CanRevert n s.slots = subst (CanRevert n) (rows_there stores 0 s is are.these.main) can in
     there_live stores mid views vs states now s u v (λ (ss : List Slot). turned_last turn.Go ss n)
-    (λ (ss : List Slot). taken_back n ss) same are is (go_law n s.slots can_here) kept tables rows there done
+    (λ (ss : List Slot). reverted n ss) same are is (go_law n s.slots can_here) kept tables rows there done

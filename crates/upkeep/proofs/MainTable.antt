@@ -45,7 +45,7 @@ use Rattle.view_lang.specs.Views.{side_in}
 use Rattle.view_lang.specs.declared.view.Lookup.{Lookup}
 use Rattle.row_keys.specs.Numbered.{come, numbered}
 use Rattle.row_keys.specs.NumberLaws.{FewPutBack, FewRetracted, Leads, NewCome, RowsAreLive, with_new}
-use Rattle.row_keys.specs.Slots.{AreRetracted, CanPutBack, CanRetract, CanTakeBack, IsThere, Slot, live, marked, new_slot, put_back, slot}
+use Rattle.row_keys.specs.Slots.{AreRetracted, CanPutBack, CanRetract, CanRevert, IsThere, Slot, live, marked, new_slot, put_back, slot}
 use Rattle.row_keys.specs.Store.{Store}
 use Rattle.upkeep.specs.Inputs.{side_by}
 use Rattle.upkeep.specs.LiveParts.{AreLive, AreOf}
@@ -307,6 +307,6 @@ put_back_few law fewer t ns slots right few can =
     let most : t.max_rows ≤ max_main_rows = right.few in
     few_rows law t slots (turned turn.Come slots ns) right few (omega (arith, short, same, most, room))
 
-pub taken_there : (n : ℕ) (slots : List Slot) → CanTakeBack n slots → n ≤ length slots
-unfolding CanTakeBack
+pub taken_there : (n : ℕ) (slots : List Slot) → CanRevert n slots → n ≤ length slots
+unfolding CanRevert
 taken_there n slots can = can

@@ -71,18 +71,18 @@ use Rattle.view_lang.specs.TableRules.{type_of}
 use Rattle.view_lang.specs.ViewColumns.{joined_columns}
 use Rattle.view_lang.specs.Aggregates.{IsKeyCell}
 use Rattle.view_lang.specs.Truth.{passes}
-use Rattle.view_lang.specs.Views.{kept_row}
+use Rattle.view_lang.specs.Views.{passing_row}
 use Rattle.view_lang.specs.World.{table_at}
 use Rattle.view_lang.specs.declared.view.Lookup.{Lookup}
 use Rattle.view_lang.proofs.Distinct.{same_symm}
 use Rattle.group_order.specs.Ranked.{Keeps as KeepsRanked, Ranked}
 use Rattle.group_state.specs.GroupCounts.{GroupCounts}
 use Rattle.group_state.specs.Groups.{Keeps as KeepsGroups, KeepsAt}
-use Rattle.group_state.specs.Aggregates.{IsKept as IsKeptColumn}
+use Rattle.group_state.specs.Aggregates.{IsAccumulated as IsKeptColumn}
 use Rattle.group_state.specs.Keys.{key_cmp, key_in, tuple_cmp}
 use Rattle.group_state.specs.Moves.{begins_with_one}
 use Rattle.group_state.specs.Tuples.{has_tuple, members, tuple_of}
-use Rattle.group_state.specs.declared.kept_columns.KeptColumn.{KeptColumn}
+use Rattle.group_state.specs.declared.accumulated_columns.AccumulatedColumn.{AccumulatedColumn}
 use Rattle.group_state.proofs.KeyData.{cell-data, key-data}
 use Rattle.group_state.proofs.Members.{tuple_itself}
 use Rattle.row_keys.proofs.KeyCells.{held_key, keyless}
@@ -218,17 +218,17 @@ module _ (fs : List (Rose NamedType)) (v : View) (keys : List ℕ) (ordered : Al
   module _ (left_out : OthersAreLeftOut) (side : Side) where
     one_made : (row : List Datum) → IsRow fs row → (b : Bool) → passes_main (length row) v.filter row ≡ b
         → (rest : List (List Datum))
-        → cons_option (kept_row v side row) (filter_map (kept_row v side) rest)
-        ≡ filter_map (kept_row v side) (cons_option (cond b (Some row) None) rest)
+        → cons_option (passing_row v side row) (filter_map (passing_row v side) rest)
+        ≡ filter_map (passing_row v side) (cons_option (cond b (Some row) None) rest)
     one_made row is true e rest = refl
     one_made row is false e rest =
-        ap (λ o. cons_option o (filter_map (kept_row v side) rest)) (left_out (length row) v side row refl e)
+        ap (λ o. cons_option o (filter_map (passing_row v side) rest)) (left_out (length row) v side row refl e)
 
     pub made_of_subs : (rows : List (List Datum)) → AllByRecursion (IsRow fs) rows
-        → filter_map (kept_row v side) rows ≡ filter_map (kept_row v side) (filter_map (sub_row_of v) rows)
+        → filter_map (passing_row v side) rows ≡ filter_map (passing_row v side) (filter_map (sub_row_of v) rows)
     made_of_subs [] all = refl
     made_of_subs (row ∷ rows) all =
-        ap (cons_option (kept_row v side row)) (made_of_subs rows all.1)
+        ap (cons_option (passing_row v side row)) (made_of_subs rows all.1)
         ∙ one_made row all.0 (passes_main (length row) v.filter row) refl (filter_map (sub_row_of v) rows)
 
 subs_few : (v : View) (rows : List (List Datum)) → length (filter_map (sub_row_of v) rows) ≤ length rows
@@ -291,7 +291,7 @@ module _ (s : SubGroups) (rows : List (List Datum)) (kept : KeepsGroups s.groups
       (λ k d below. has_group k d below)
 
 kept_alike : (v : View) (l : Lookup) (a b : Side) (row : List Datum) → v.lookup ≡ Some l
-    → a (cell_at row l.on) ≡ b (cell_at row l.on) → kept_row v a row ≡ kept_row v b row
+    → a (cell_at row l.on) ≡ b (cell_at row l.on) → passing_row v a row ≡ passing_row v b row
 unfolding joined_row
 kept_alike v l a b row is same =
     let joins : (o : Option Lookup) → o ≡ Some l → joined_row o a row ≡ joined_row o b row =
@@ -315,7 +315,7 @@ module _ (v : View) (l : Lookup) (a b : Side) (rest : List ℕ) (named : List Da
 
   row_alike : (row : List Datum) → IsKeyCell (cell_at row l.on)
       → list_any (is_at (tuple_cmp (tuple_of keys row))) ts ≡ false
-      → list_any (is_at (tuple_cmp (tuple_of keys row))) es ≡ true → kept_row v a row ≡ kept_row v b row
+      → list_any (is_at (tuple_cmp (tuple_of keys row))) es ≡ true → passing_row v a row ≡ passing_row v b row
   row_alike row keyed out there =
       kept_alike v l a b row is
       (same (cell_at row l.on)
@@ -332,8 +332,8 @@ module _ (v : View) (l : Lookup) (a b : Side) (rest : List ℕ) (named : List Da
     where
       go : (c : Bool) → list_any (is_at (tuple_cmp (tuple_of keys row))) ts ≡ c
           → projected_but v a keys ts rows ≡ projected_but v b keys ts rows
-          → filter_map (kept_row v a) (cond (not c) (row ∷ rows_but keys ts rows) (rows_but keys ts rows))
-          ≡ filter_map (kept_row v b) (cond (not c) (row ∷ rows_but keys ts rows) (rows_but keys ts rows))
+          → filter_map (passing_row v a) (cond (not c) (row ∷ rows_but keys ts rows) (rows_but keys ts rows))
+          ≡ filter_map (passing_row v b) (cond (not c) (row ∷ rows_but keys ts rows) (rows_but keys ts rows))
       go true e h = h
       go false e h = ap₂ cons_option (row_alike row keyed.0 e there.0) h
 
@@ -344,10 +344,10 @@ none_out ks (row ∷ rows) = ap (λ rs. row ∷ rs) (none_out ks rows)
 
 pub made_of_groups : (v : View) (side : Side) (by : List ℕ) (outs : List GroupOutput) (having : Option Filter)
     (rows : List (List Datum)) → v.outputs ≡ groups by outs having
-    → filter_map (projected_row v side) rows ≡ filter_map (kept_row v side) rows
+    → filter_map (projected_row v side) rows ≡ filter_map (passing_row v side) rows
 made_of_groups v side by outs having rows is =
-    subst (λ (os : Outputs). filter_map (λ row. projected_by os (kept_row v side row)) rows
-    ≡ filter_map (kept_row v side) rows)
+    subst (λ (os : Outputs). filter_map (λ row. projected_by os (passing_row v side row)) rows
+    ≡ filter_map (passing_row v side) rows)
     (sym is) refl
 
 -- A view of groups whose sub-groups move
@@ -355,7 +355,7 @@ made_of_groups v side by outs having rows is =
 some_is : {X : Type 0} (x y : X) → Some x ≡ Some y → x ≡ y
 some_is x y h = cc h
 
-groups_in : (k : Materialized) (g : Ranked) (columns : List KeptColumn) → k ≡ kept.Groups g
+groups_in : (k : Materialized) (g : Ranked) (columns : List AccumulatedColumn) → k ≡ kept.Groups g
     → columns_in k ≡ Some columns
     → g.groups.columns ≡ columns
 groups_in k g columns is counted =
@@ -432,8 +432,8 @@ module _ (laws : Laws) {tables : List Table} {v : View} {s : SubGroups} {k : Mat
       ∙ ap (filter_map (projected_row v side)) (laws.live slots)
       ∙ made_of_groups v side of_sub.by of_sub.outputs of_sub.having (live slots) of_sub.grouped
       ∙ made_of_subs (table_at tables 0).columns v sub_by ordered laws.left_out side (live slots) all_held
-      ∙ ap (filter_map (kept_row v side)) (sym linked_are)
-      ∙ sym (ap (filter_map (kept_row v side)) (none_out s.groups.keys linked_rows))
+      ∙ ap (filter_map (passing_row v side)) (sym linked_are)
+      ∙ sym (ap (filter_map (passing_row v side)) (none_out s.groups.keys linked_rows))
 
   pub kept_of : (side : Side) → IsMaterialized v k (image (projected_row v side) (numbered slots))
       → KeepsRanked g (projected_but v side s.groups.keys [] linked_rows)
@@ -457,7 +457,7 @@ module _ (laws : Laws) {tables : List Table} {v : View} {s : SubGroups} {k : Mat
       (image (projected_row v side) (numbered slots)))
       (sym of_sub.grouped) (
         keys ∙ was.0,
-        subst (λ (cs : List KeptColumn). All (λ o. IsKeptColumn cs o.aggregate) of_sub.outputs) (sym columns) was.1,
+        subst (λ (cs : List AccumulatedColumn). All (λ o. IsKeptColumn cs o.aggregate) of_sub.outputs) (sym columns) was.1,
         ranking ∙ was.2,
         subst (KeepsRanked h) (sym (made_are side)) kept_now,
       )

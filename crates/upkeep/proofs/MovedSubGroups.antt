@@ -49,7 +49,7 @@ use Rattle.values.specs.Datum.{Datum}
 use Rattle.values.specs.declared.key.Key.{Key}
 use Rattle.view_lang.specs.Config.{Table, View}
 use Rattle.view_lang.specs.Limits.{max_appended_rows}
-use Rattle.view_lang.specs.Views.{kept_row}
+use Rattle.view_lang.specs.Views.{passing_row}
 use Rattle.group_order.specs.Ranked.{Keeps as KeepsRanked, Ranked}
 use Rattle.group_state.specs.GroupCounts.{GroupCounts}
 use Rattle.group_state.specs.Groups.{KeepsAt}
@@ -57,9 +57,9 @@ use Rattle.group_state.specs.Keys.{tuple_cmp, tuple_total}
 use Rattle.group_state.specs.Moves.{AreTogether, IsPartOf}
 use Rattle.group_state.specs.Rows.{KeepsRows}
 use Rattle.group_state.specs.Tuples.{members, tuple_of}
-use Rattle.group_state.specs.declared.kept_columns.KeptColumn.{KeptColumn}
+use Rattle.group_state.specs.declared.accumulated_columns.AccumulatedColumn.{AccumulatedColumn}
 use Rattle.group_state.proofs.Same.{keeps-same}
-use Rattle.sub_groups.specs.Places.{stand_row}
+use Rattle.sub_groups.specs.Places.{representative_row}
 use Rattle.sub_groups.specs.SubGroups.{ArePlaced, IsSubRow, SubGroupsArePlaced, SubGroupsPart, rows_but, sub_keys}
 use Rattle.sub_groups.specs.declared.sub_groups.SubGroups.{SubGroups}
 use Rattle.upkeep.specs.Moves.{AreGrouped, AreParted, CanMove, after_move, before_move, projected_but, out_at}
@@ -142,15 +142,15 @@ module _ (law : SubGroupsArePlaced) (tables : List Table) (v : View) (side : Sid
     (can : CanMove tables v s g) (t : List Key) (rows all others : List (List Datum))
     (grouped : AreGrouped tables v s rows) (parted : AreParted v side s.groups.keys t rows all others) where
   abbrev pub moved_rows : List (List Datum)
-  moved_rows = filter_map (kept_row v side) (members s.groups.keys t rows)
+  moved_rows = filter_map (passing_row v side) (members s.groups.keys t rows)
 
-  placed : ArePlaced can.right.by s.groups.columns (stand_row (width_in tables) v side s.groups.keys t)
+  placed : ArePlaced can.right.by s.groups.columns (representative_row (width_in tables) v side s.groups.keys t)
       (members s.groups.keys t rows) moved_rows
   placed =
       let keys : List ℕ = sub_keys (width_in tables) can.right.look can.right.by in
       let P : List ℕ → Type 0 =
-      λ ks. ArePlaced can.right.by s.groups.columns (stand_row (width_in tables) v side ks t) (members ks t rows)
-      (filter_map (kept_row v side) (members ks t rows)) in
+      λ ks. ArePlaced can.right.by s.groups.columns (representative_row (width_in tables) v side ks t) (members ks t rows)
+      (filter_map (passing_row v side) (members ks t rows)) in
       subst P (sym can.right.keyed)
       (law (width_in tables) v can.right.look can.right.by s.groups.columns side rows t can.right.can
       (subst (λ (ks : List ℕ). All (IsSubRow (width_in tables) v ks) rows) can.right.keyed grouped.each))
@@ -162,21 +162,21 @@ module _ (law : SubGroupsArePlaced) (tables : List Table) (v : View) (side : Sid
       (grouped.kept.groups_are t)
 
   pub no_group : None ≡ lookup (is_at (tuple_cmp t)) s.groups.groups → moved_rows ≡ []
-  no_group is = ap (filter_map (kept_row v side)) (kept_at None is)
+  no_group is = ap (filter_map (passing_row v side)) (kept_at None is)
 
-  pub no_place : stand_row (width_in tables) v side s.groups.keys t ≡ None → moved_rows ≡ []
+  pub no_place : representative_row (width_in tables) v side s.groups.keys t ≡ None → moved_rows ≡ []
   no_place none = placed.none none
 
   pub part :
       (h : GroupCounts) (place : List Key) → Some h ≡ lookup (is_at (tuple_cmp t)) s.groups.groups
-      → option_map (tuple_of g.groups.keys) (stand_row (width_in tables) v side s.groups.keys t) ≡ Some place
+      → option_map (tuple_of g.groups.keys) (representative_row (width_in tables) v side s.groups.keys t) ≡ Some place
       → IsPartOf g.groups.keys g.groups.columns place h all moved_rows others
   part h place there made =
-      let r = made_of (tuple_of g.groups.keys) (stand_row (width_in tables) v side s.groups.keys t) place made in
+      let r = made_of (tuple_of g.groups.keys) (representative_row (width_in tables) v side s.groups.keys t) place made in
       let at = kept_at (Some h) there in
       record {
         together = parted.together;
-        kept = subst (λ (cs : List KeptColumn). KeepsRows cs h moved_rows) (sym can.counted)
+        kept = subst (λ (cs : List AccumulatedColumn). KeepsRows cs h moved_rows) (sym can.counted)
             (placed.kept (ap is_some r.1.0) h at.1);
         tuple = subst (λ (u : List Key). All (λ row. tuple_of g.groups.keys row ≡ u) moved_rows) r.1.1
             (subst (λ (ks : List ℕ). All (λ row. tuple_of ks row ≡ tuple_of ks r.0) moved_rows) (sym can.keyed)
@@ -285,7 +285,7 @@ some_left p (r ∷ rs) = go (p r) (some_left p rs)
 made_but_few : (v : View) (side : Side) (keys : List ℕ) (out : List (List Key)) (rows : List (List Datum))
     → length rows < max_appended_rows → length (projected_but v side keys out rows) < max_appended_rows
 made_but_few v side keys out rows few =
-    let one = made_few (kept_row v side) (rows_but keys out rows) in
+    let one = made_few (passing_row v side) (rows_but keys out rows) in
     let two = some_left (λ row. not (list_any (is_at (tuple_cmp (tuple_of keys row))) out)) rows in
     omega (arith, few, one, two)
 
@@ -296,12 +296,12 @@ module _ (law : SubGroupsPart) (v : View) (side : Side) (keys : List ℕ) (rows 
       → AreParted v side keys t rows (projected_but v side keys (all_out u i ts) rows)
       (projected_but v side keys (others_out u i ts) rows)
   next_parted turn.Go = record {
-    together = law keys (kept_row v side) rows t (take i ts) (take (i + 1) ts) (taken_apart ts ascending i t is below)
+    together = law keys (passing_row v side) rows t (take i ts) (take (i + 1) ts) (taken_apart ts ascending i t is below)
         (taken_more ts ascending i t is below);
     few = made_but_few v side keys (take i ts) rows few;
   }
   next_parted turn.Come = record {
-    together = law keys (kept_row v side) rows t (drop (i + 1) ts) (drop i ts)
+    together = law keys (passing_row v side) rows t (drop (i + 1) ts) (drop i ts)
         (dropped_apart ts ascending i t is below) (dropped_more ts ascending i t is below);
     few = made_but_few v side keys (drop (i + 1) ts) rows few;
   }

@@ -43,7 +43,7 @@ use Rattle.std.specs.Prelude.{if◌then◌else◌, nat_eq, slice_index_or}
 use Rattle.std.proofs.lemmas.List.Elements.{All-cons, All-head, All-nil, All-tail}
 use Rattle.std.proofs.lemmas.List.Sums.{sum_by-cons}
 use Rattle.values.specs.Datum.{Datum}
-use Rattle.values.specs.KeyOrder.{KeysStandInOrder}
+use Rattle.values.specs.KeyOrder.{KeysAreOrdered}
 use Rattle.values.specs.Keys.{datum_of_key, key_of}
 use Rattle.values.specs.declared.key.Key.{Key}
 use Rattle.view_lang.specs.Cells.{cell_at}
@@ -70,14 +70,14 @@ some_is x y h = cc h
 
 -- keys as values
 
-pub is_key_same : KeysStandInOrder → (d : Datum) (k : Key) (o : Option Key) → key_of d ≡ o
+pub is_key_same : KeysAreOrdered → (d : Datum) (k : Key) (o : Option Key) → key_of d ≡ o
     → is_key k o ≡ same_key d (datum_of_key k)
 is_key_same law d k None h = sym (keyless d k h)
 is_key_same law d k (Some held) h =
     ap is_eq (law held k) ∙ ap (λ x. same_key x (datum_of_key k)) (key_datum d held h)
 
 -- A row refers to one of some keys where its cell is among them.
-any_among : KeysStandInOrder → (d : Datum) (keys : List Key)
+any_among : KeysAreOrdered → (d : Datum) (keys : List Key)
     → list_any (λ k. is_key k (key_of d)) keys ≡ is_among d (map datum_of_key keys)
 unfolding is_among
 any_among law d [] = refl
@@ -98,7 +98,7 @@ abbrev pub refers_live : Lookup → List Datum → Option (List Datum) → Bool
 refers_live l keys None = false
 refers_live l keys (Some row) = is_among (cell_at row l.on) keys
 
-cell_refers : KeysStandInOrder → (l : Lookup) (keys : List Key) (o : Option (List Datum))
+cell_refers : KeysAreOrdered → (l : Lookup) (keys : List Key) (o : Option (List Datum))
     → list_any (λ k. holds k (option_and_then (referring_by (Some l)) o)) keys
     ≡ refers_live l (map datum_of_key keys) o
 cell_refers law l keys None = any_none (λ k. false) keys (λ k. refl)
@@ -109,7 +109,7 @@ abbrev pub AreReferring : Lookup → List Datum → List Slot → List ℕ → T
 AreReferring l keys slots ns = (n : ℕ) → is_numbered ns n ≡ refers_live l keys (live_at slots n)
 
 pub are_referring :
-    KeysStandInOrder → ImageAt → NumbersAscend → RowsAreAtNumbers → (v : View) (l : Lookup) (kept : RowsByKey)
+    KeysAreOrdered → ImageAt → NumbersAscend → RowsAreAtNumbers → (v : View) (l : Lookup) (kept : RowsByKey)
     (slots : List Slot) (keys : List Key) (ns : List ℕ) → v.lookup ≡ Some l
     → KeepsReferrers kept (image (referring_row v) (numbered slots))
     → ((n : ℕ) → is_numbered ns n ≡ list_any (λ k. refers_to kept k n) keys)

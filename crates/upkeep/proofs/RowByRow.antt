@@ -20,7 +20,7 @@ use Rattle.view_lang.specs.SortedEntries.{sorted-insert_entry, sorted-remove_ent
 use Rattle.view_lang.specs.Views.{shown_row}
 use Rattle.view_lang.specs.declared.view.OrderBy.{OrderBy}
 use Rattle.top_rows.specs.Keeping.{Keeps as KeepsOrder}
-use Rattle.top_rows.specs.OrderedPlaces.{OrderedPlaces}
+use Rattle.top_rows.specs.OrderedEntries.{OrderedEntries}
 use Rattle.row_keys.specs.Slots.{Slot, no_slot, row_of}
 use Rattle.row_keys.specs.Store.{Store, visited}
 use Rattle.upkeep.specs.Inputs.{side_by}
@@ -251,7 +251,7 @@ same_change P Q one change same turned rows fits before =
 
 -- An order is kept of the rows that a plain view shows.
 pub order_turned :
-    (Each : Type 0) (os : Outputs) (outs : List Output) (order : List OrderBy) (k : Materialized) (o o' : OrderedPlaces) (t : Turn) (n : ℕ)
+    (Each : Type 0) (os : Outputs) (outs : List Output) (order : List OrderBy) (k : Materialized) (o o' : OrderedEntries) (t : Turn) (n : ℕ)
     (row : List Datum) → os ≡ columns outs → k ≡ kept.Order o → o'.order ≡ o.order
     → ((rows : NumberedRows) → Fits rows (turned_by t n (Some (shown_row outs row)) ∷ []) → KeepsOrder o rows
     → KeepsOrder o' (patched rows (turned_by t n (Some (shown_row outs row)) ∷ [])))

@@ -6,7 +6,7 @@ use Rattle.values.proofs.KeyLaws.{keys-ordered}
 use Rattle.values.proofs.ShallowLemmas.{datum_cmp-shallow}
 use Rattle.values.specs.CellViews.{shallow, viewed}
 use Rattle.values.specs.Datum.{Datum, null, truth, whole, text, bytes, list, structure, no_items}
-use Rattle.values.specs.KeyOrder.{KeysStandInOrder}
+use Rattle.values.specs.KeyOrder.{KeysAreOrdered}
 use Rattle.values.specs.Keys.{datum_of_key}
 use Rattle.values.specs.Order.{datum_cmp}
 use Rattle.values.specs.declared.cell_view.CellView.{CellView}
@@ -16,12 +16,12 @@ use Rattle.values.specs.declared.key.Key.TheVariants as key
 use Rattle.view_lang.proofs.ExactKeys.{key_exact}
 use Rattle.upkeep.specs.AlikeRows.{are_same, is_nested}
 
-same_keyed : KeysStandInOrder → (j k : Key) → is_eq (datum_cmp (datum_of_key j) (datum_of_key k)) ≡ true
+same_keyed : KeysAreOrdered → (j k : Key) → is_eq (datum_cmp (datum_of_key j) (datum_of_key k)) ≡ true
     → datum_of_key j ≡ datum_of_key k
 same_keyed law j k h =
     ap datum_of_key (key_exact j k (law j k ∙ (Equal-is (datum_cmp (datum_of_key j) (datum_of_key k))).0 h))
 
-same_value : KeysStandInOrder → (x y : Datum) → (shallow x ≡ list no_items → ⊥) → (shallow x ≡ structure no_items → ⊥)
+same_value : KeysAreOrdered → (x y : Datum) → (shallow x ≡ list no_items → ⊥) → (shallow x ≡ structure no_items → ⊥)
     → is_eq (datum_cmp x y) ≡ true → x ≡ y
 same_value law null null no_list no_struct h = refl
 same_value law null (truth b) no_list no_struct h = absurd (true≢false (sym h))

@@ -11,7 +11,7 @@ use Rattle.view_lang.specs.Joined.{Side, joined_row, looked_up, or_missing}
 use Rattle.view_lang.specs.Outputs.{Output, Outputs, columns, groups}
 use Rattle.view_lang.specs.Rows.{IsRow}
 use Rattle.view_lang.specs.Truth.{passes}
-use Rattle.view_lang.specs.Views.{kept_row, shown_row, view_rows}
+use Rattle.view_lang.specs.Views.{passing_row, shown_row, view_rows}
 use Rattle.view_lang.specs.declared.view.Lookup.{Lookup}
 use Rattle.row_keys.specs.Slots.{IsLiveAt, Slot, live, row_of}
 use Rattle.row_keys.proofs.LiveRows.{held_long, live_row_is}
@@ -73,7 +73,7 @@ kept_joined b (Some r) joined is = by (b r) is
 
 -- What is made of a row is what is shown of it joined.
 pub made_of : (v : View) (side : Side) (row made cells : List Datum) (os : Outputs) (outputs : List Output)
-    (kept : Option (List Datum)) → os ≡ columns outputs → kept ≡ kept_row v side row
+    (kept : Option (List Datum)) → os ≡ columns outputs → kept ≡ passing_row v side row
     → ((joined : List Datum) → joined_row v.lookup side row ≡ Some joined → shown_row outputs joined ≡ cells)
     → projected_by os kept ≡ Some made → projected_by os kept ≡ Some cells
 made_of v side row made cells (groups by gs having) outputs kept plain whole shown is = absurd (cc)
@@ -97,7 +97,7 @@ module _ (v : View) (side : Side) (slots : List Slot) (outputs : List Output) (p
       let row : List Datum = row_of slots n in
       let P : ℕ → Type 0 = λ w. All (λ o. o.column < w) outputs in
       let below : P (length row) = subst P (sym (wide n lives)) narrow in
-      made_of v side row made.0 (picked (map column_of outputs) row) v.outputs outputs (kept_row v side row) plain refl
+      made_of v side row made.0 (picked (map column_of outputs) row) v.outputs outputs (passing_row v side row) plain refl
       (λ joined is. joined_shown v.lookup side row joined outputs below is) made.1
 
   pub made_all : (numbers : List ℕ) → All (IsLiveAt slots) numbers → All Made numbers

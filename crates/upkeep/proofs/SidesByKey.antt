@@ -43,7 +43,7 @@ use Rattle.std.proofs.lemmas.Bool.{eqb-true}
 use Rattle.std.proofs.lemmas.List.Elements.{All-head, All-tail}
 use Rattle.std.proofs.lemmas.List.{map-append, take_more}
 use Rattle.values.specs.Datum.{Datum}
-use Rattle.values.specs.KeyOrder.{KeysStandInOrder}
+use Rattle.values.specs.KeyOrder.{KeysAreOrdered}
 use Rattle.values.specs.Keys.{datum_of_key, key_of}
 use Rattle.values.specs.declared.key.Key.{Key}
 use Rattle.view_lang.proofs.ExactKeys.{key_exact}
@@ -52,7 +52,7 @@ use Rattle.view_lang.specs.Config.{Table, View}
 use Rattle.view_lang.specs.Contents.{is_among, same_key}
 use Rattle.view_lang.specs.Joined.{Side, joined_row, looked_up, side_of}
 use Rattle.view_lang.specs.Shifts.{shift}
-use Rattle.view_lang.specs.Views.{kept_row, side_in}
+use Rattle.view_lang.specs.Views.{passing_row, side_in}
 use Rattle.view_lang.specs.World.{contents_at, table_at}
 use Rattle.view_lang.specs.declared.view.Lookup.{Lookup}
 use Rattle.lookups.proofs.Exactness.{key_total}
@@ -100,7 +100,7 @@ none_among d [] none = refl
 none_among d (k ∷ ks) none =
     ap (λ b. b || is_among d (map datum_of_key ks)) (keyless d k none) ∙ none_among d ks none
 
-module _ (law : KeysStandInOrder) (side : Side) (old new : RowsByKey) (k : Key) (row : Option (Vec Datum Global))
+module _ (law : KeysAreOrdered) (side : Side) (old new : RowsByKey) (k : Key) (row : Option (Vec Datum Global))
     (is : option_map (λ (r : Vec Datum Global). r.items) row ≡ side (datum_of_key k))
     (updates : (q : Key) → lookup (is_at (key_cmp q)) new
     ≡ cond (is_at (key_cmp k) q) (Some row) (lookup (is_at (key_cmp q)) old)) where
@@ -147,7 +147,7 @@ module _ (law : KeysStandInOrder) (side : Side) (old new : RowsByKey) (k : Key) 
 -- what a view makes of a row, of what is looked up for it
 
 made_with : (v : View) (row : List Datum) (side : Side) (found : Option (List Datum))
-    → found ≡ looked_up v.lookup side row → kept_with v row found ≡ kept_row v side row
+    → found ≡ looked_up v.lookup side row → kept_with v row found ≡ passing_row v side row
 unfolding joined_row
 made_with v row side found is = ap (kept_with v row) is
 

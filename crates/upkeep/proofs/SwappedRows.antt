@@ -7,7 +7,7 @@ use Rattle.values.specs.Datum.{Datum, null, truth, whole, text, bytes, list, str
 use Rattle.view_lang.specs.Config.{Table}
 use Rattle.view_lang.specs.Contents.{is_among, key_in, same_key}
 use Rattle.view_lang.specs.Joined.{side_of}
-use Rattle.row_keys.specs.Slots.{CanTakeBack, Slot, contents_of, keys_at, last_numbers, live, marked, put_back, put_hidden, retracted, row_of, taken_back}
+use Rattle.row_keys.specs.Slots.{CanRevert, Slot, contents_of, keys_at, last_numbers, live, marked, put_back, put_hidden, retracted, reverted, row_of}
 use Rattle.row_keys.specs.NumberLaws.{HiddenIsUndone}
 use Rattle.upkeep.specs.Swaps.{CanSwap, swapped}
 use Rattle.row_keys.specs.HiddenChanges.{NamesRows, hidden, named_keys}
@@ -150,12 +150,12 @@ side_swapped u t c (structure es) slots other = found_swapped u t c (structure e
 
 -- The rows that a change names are there.
 
-pub few_last : (n : ℕ) (slots : List Slot) → CanTakeBack n slots → n ≤ length slots
-unfolding CanTakeBack
+pub few_last : (n : ℕ) (slots : List Slot) → CanRevert n slots → n ≤ length slots
+unfolding CanRevert
 few_last n slots can = can
 
-shorter : (n : ℕ) (slots : List Slot) → length (taken_back n slots) ≤ length slots
-unfolding taken_back
+shorter : (n : ℕ) (slots : List Slot) → length (reverted n slots) ≤ length slots
+unfolding reverted
 shorter n slots = let long = length-take (length slots - n) slots in omega (arith, long)
 
 still_below : (m : ℕ) (ns : List ℕ) (n : ℕ) → m ≤ n → All (λ k. k < m) ns → All (λ k. k < n) ns
@@ -166,8 +166,8 @@ names_rows turn.Come t (Appended n) slots can = absurd can.0
 names_rows turn.Come t (Retracted ns) slots can = put_back_there t ns.items slots can.1
 names_rows turn.Come t (Put n replaced) slots can = (
   few_last n slots can.1.0,
-  still_below (length (taken_back n slots)) replaced.items (length slots) (shorter n slots)
-      (put_back_there t replaced.items (taken_back n slots) can.1.1),
+  still_below (length (reverted n slots)) replaced.items (length slots) (shorter n slots)
+      (put_back_there t replaced.items (reverted n slots) can.1.1),
 )
 names_rows turn.Go t (Appended n) slots can = absurd can.0
 names_rows turn.Go t (Retracted ns) slots can = retracted_there ns.items slots can.1.can_show

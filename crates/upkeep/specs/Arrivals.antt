@@ -23,7 +23,7 @@ use Rattle.values.specs.Datum.{Datum}
 use Rattle.view_lang.specs.Config.{View}
 use Rattle.view_lang.specs.Joined.{Side}
 use Rattle.view_lang.specs.Truth.{is_true}
-use Rattle.view_lang.specs.Views.{kept_row}
+use Rattle.view_lang.specs.Views.{passing_row}
 use Rattle.view_lang.specs.declared.view.Lookup.{Lookup}
 use Rattle.row_keys.specs.Slots.{Slot, last_numbers, row_of}
 use Rattle.sub_groups.specs.FilterParts.{passes_main}
@@ -32,7 +32,7 @@ use Rattle.upkeep.specs.declared.arrivals.Arrival.{Arrival}
 
 -- A view keeps no such row, whatever is looked up for it.
 abbrev pub IsDropped : View → List Datum → Type 0
-IsDropped v row = (side : Side) → kept_row v side row ≡ None
+IsDropped v row = (side : Side) → passing_row v side row ≡ None
 
 -- the cell of this number as a row, if there is one
 abbrev pub cell_row : List Datum → ℕ → Option (List Datum)

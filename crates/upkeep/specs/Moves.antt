@@ -6,13 +6,13 @@ use Rattle.values.specs.declared.key.Key.{Key}
 use Rattle.view_lang.specs.Config.{Table, View}
 use Rattle.view_lang.specs.Joined.{Side}
 use Rattle.view_lang.specs.Limits.{max_appended_rows}
-use Rattle.view_lang.specs.Views.{kept_row}
+use Rattle.view_lang.specs.Views.{passing_row}
 use Rattle.group_order.specs.Ranked.{Keeps as KeepsRanked, Ranked}
 use Rattle.group_state.specs.Groups.{Keeps as KeepsGroups}
 use Rattle.group_state.specs.Moves.{AreTogether}
 use Rattle.group_state.specs.Tuples.{members}
 use Rattle.row_keys.specs.Store.{Store}
-use Rattle.sub_groups.specs.Places.{stand_row}
+use Rattle.sub_groups.specs.Places.{representative_row}
 use Rattle.sub_groups.specs.SubGroups.{AreSubGroups, IsSubRow, rows_but}
 use Rattle.sub_groups.specs.declared.sub_groups.SubGroups.{SubGroups}
 use Rattle.upkeep.specs.Inputs.{side_from}
@@ -37,7 +37,7 @@ pub record AreGrouped (tables : List Table) (v : View) (s : SubGroups) (rows : L
 pub record AreParted
     (v : View) (side : Side) (keys : List ℕ) (t : List Key) (rows all others : List (List Datum)) :
     Type 0 where
-  pub together : AreTogether all (filter_map (kept_row v side) (members keys t rows)) others
+  pub together : AreTogether all (filter_map (passing_row v side) (members keys t rows)) others
   pub few : length all < max_appended_rows
 
 -- the rows of the groups before a sub-group goes or comes, and after it
@@ -71,11 +71,11 @@ out_at turn.Come i ts = drop i ts
 
 -- what the view makes of the rows that are in none of these sub-groups
 abbrev pub projected_but : View → Side → List ℕ → List (List Key) → List (List Datum) → List (List Datum)
-projected_but v side keys out rows = filter_map (kept_row v side) (rows_but keys out rows)
+projected_but v side keys out rows = filter_map (passing_row v side) (rows_but keys out rows)
 
 -- the row by which the view places a sub-group
-abbrev pub stand_row_of : List Store → View → SubGroups → List Key → Option (List Datum)
-stand_row_of stores v s t = stand_row (width_in (tables_in stores)) v (side_from stores v) s.groups.keys t
+abbrev pub representative_row_of : List Store → View → SubGroups → List Key → Option (List Datum)
+representative_row_of stores v s t = representative_row (width_in (tables_in stores)) v (side_from stores v) s.groups.keys t
 
 -- Groups keep what the view makes of these rows, but for those of the sub-groups that are out.
 abbrev pub KeepsBut : List Store → View → SubGroups → Ranked → List (List Key) → List (List Datum) → Type 0

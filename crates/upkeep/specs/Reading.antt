@@ -12,7 +12,7 @@ use Rattle.view_lang.specs.Laws.{Viewed}
 use Rattle.view_lang.specs.Views.{view_rows}
 use Rattle.group_order.specs.Ranked.{Keeps as KeepsRanked, Ranked, ranked_rows}
 use Rattle.group_state.specs.Reading.{CanReadAll}
-use Rattle.top_rows.specs.OrderedPlaces.{OrderedPlaces}
+use Rattle.top_rows.specs.OrderedEntries.{OrderedEntries}
 use Rattle.top_rows.specs.ViewOrder.{AreFirst, IsKeptFor}
 use Rattle.row_keys.specs.Numbered.{numbered}
 use Rattle.row_keys.specs.Slots.{IsLiveAt, Slot, live, row_of}
@@ -63,7 +63,7 @@ LiveAreShown =
 -- So are the first in an order that is kept of it, as many as it asks for.
 abbrev pub FirstsAreShown : Type 0
 FirstsAreShown =
-    (tables : List Table) (v : View) (side : Side) (slots : List Slot) (o : OrderedPlaces) (numbers : List ℕ)
+    (tables : List Table) (v : View) (side : Side) (slots : List Slot) (o : OrderedEntries) (numbers : List ℕ)
     → IsReadable tables v side slots (kept.Order o)
     → (IsKeptFor o (image (projected_row v side) (numbered slots))
     → AreFirst o.order (unwrap_or v.first max_main_rows) (image (projected_row v side) (numbered slots)) numbers)

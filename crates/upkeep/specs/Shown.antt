@@ -5,7 +5,7 @@ use Rattle.body_writer.specs.Picked.{beside, picked_rows}
 use Rattle.view_lang.specs.Cells.{rows_of}
 use Rattle.view_lang.specs.Config.{Table, View}
 use Rattle.view_lang.specs.Outputs.{Output, columns}
-use Rattle.row_keys.specs.Places.{row_if}
+use Rattle.row_keys.specs.Locations.{row_if}
 use Rattle.row_keys.specs.Slots.{IsLiveAt, Slot, row_of}
 use Rattle.upkeep.specs.Stores.{Rows, rows_at}
 use Rattle.upkeep.specs.ViewStates.{width_at, width_in}

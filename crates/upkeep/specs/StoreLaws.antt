@@ -83,11 +83,11 @@ tables_length stores = length-map stores (λ (x : Store). x.table)
 
 -- Rows by number
 
-pub rows_placed : (rows : Rows) (n : ℕ) (slots : List Slot) → n < length rows → rows_at (slice_set rows n slots) n ≡
+pub rows_located : (rows : Rows) (n : ℕ) (slots : List Slot) → n < length rows → rows_at (slice_set rows n slots) n ≡
     slots
-rows_placed [] n slots below = absurd (omega (arith, below))
-rows_placed (r ∷ rs) zero slots below = refl
-rows_placed (r ∷ rs) (suc n) slots below = rows_placed rs n slots (omega (arith, below))
+rows_located [] n slots below = absurd (omega (arith, below))
+rows_located (r ∷ rs) zero slots below = refl
+rows_located (r ∷ rs) (suc n) slots below = rows_located rs n slots (omega (arith, below))
 
 pub length_placed : (rows : Rows) (n : ℕ) (slots : List Slot) → length (slice_set rows n slots) ≡ length rows
 length_placed [] n slots = refl

@@ -28,15 +28,15 @@ use Rattle.view_lang.specs.Images.{image, shift_image}
 use Rattle.view_lang.specs.Joined.{Side}
 use Rattle.view_lang.specs.Outputs.{Outputs, columns, groups}
 use Rattle.view_lang.specs.Shifts.{NumberedRows, Shift, shift}
-use Rattle.view_lang.specs.Views.{kept_row, shown_row}
+use Rattle.view_lang.specs.Views.{passing_row, shown_row}
 use Rattle.view_lang.specs.World.{table_at}
 use Rattle.view_lang.specs.declared.view.Lookup.{Lookup}
 use Rattle.view_lang.specs.declared.view.Missing.{Missing}
 use Rattle.view_lang.specs.declared.view.Missing.TheVariants as missing
 use Rattle.view_lang.specs.declared.view.OrderBy.{OrderBy}
 use Rattle.group_order.specs.Ranked.{Keeps as KeepsRanked, ranking_by}
-use Rattle.group_state.specs.Aggregates.{IsKept as IsKeptColumn}
-use Rattle.group_state.specs.declared.kept_columns.KeptColumn.{KeptColumn}
+use Rattle.group_state.specs.Aggregates.{IsAccumulated as IsKeptColumn}
+use Rattle.group_state.specs.declared.accumulated_columns.AccumulatedColumn.{AccumulatedColumn}
 use Rattle.lookups.specs.Keeping.{Keeps as KeepsReferrers}
 use Rattle.sub_groups.specs.Moved.{is_moved}
 use Rattle.sub_groups.specs.SubGroups.{AreSubGroups, KeepsSubGroups, sub_row}
@@ -64,7 +64,7 @@ projected_by (groups by outputs having) joined = joined
 
 -- what a view makes of a row of the main table, joined and filtered; `None` where it isn't kept
 abbrev pub projected_row : View → Side → List Datum → Option (List Datum)
-projected_row v side row = projected_by v.outputs (kept_row v side row)
+projected_row v side row = projected_by v.outputs (passing_row v side row)
 
 -- whether a row stays for which the side table has no row
 abbrev pub stays : Missing → Bool
@@ -136,13 +136,13 @@ IsDroppedLink (links.Rows r) cell row = row ≡ option_map (λ d. d ∷ []) cell
 IsDroppedLink (links.SubGroups s) cell row = row ≡ None
 
 -- the columns of which groups keep something
-abbrev pub columns_in : Materialized → Option (List KeptColumn)
+abbrev pub columns_in : Materialized → Option (List AccumulatedColumn)
 columns_in kept.Live = None
 columns_in (kept.Order o) = None
 columns_in (kept.Groups g) = Some g.groups.columns
 
 -- by what sub-groups are made, and of which columns they keep something
-abbrev pub form_of : Links → Option (List ℕ × List KeptColumn)
+abbrev pub form_of : Links → Option (List ℕ × List AccumulatedColumn)
 form_of (links.Rows r) = None
 form_of (links.SubGroups s) = Some (s.groups.keys, s.groups.columns)
 

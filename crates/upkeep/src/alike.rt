@@ -6,7 +6,7 @@ ghost use Rattle.values.specs.CellViews.{viewed};
 ghost use Rattle.upkeep.specs.AlikeRows.{are_materialized_alike, are_same, differ_in};
 
 use crate::view_state::Materialized;
-use group_state::KeptColumn;
+use group_state::AccumulatedColumn;
 use values::{CellView, cmp_cells};
 use view_lang::{OrderBy, Outputs, RowView, ShownRow, View};
 
@@ -53,7 +53,7 @@ fn differs_in_tuple<R: RowView>(columns: &[usize], a: &R, b: &R) -> bool
 }
 
 /// Whether two rows differ in a column of which groups keep something.
-fn differs_in_columns<R: RowView>(columns: &[KeptColumn], a: &R, b: &R) -> bool
+fn differs_in_columns<R: RowView>(columns: &[AccumulatedColumn], a: &R, b: &R) -> bool
     ensures { result ≡ list_any (λ c. differ_in (R.cells a.now) (R.cells b.now) c.column) columns.now }
 {
     for kept in columns {

@@ -4,7 +4,7 @@ ghost use Rattle.std.specs.Prelude.{◌≡◌, IfOk};
 ghost use Rattle.std.specs.Option.{option_map};
 ghost use Rattle.view_lang.specs.ConfigRules.{IsLookup, IsView};
 ghost use Rattle.view_lang.specs.Joined.{looked_up};
-ghost use Rattle.view_lang.specs.Views.{kept_row, side_in};
+ghost use Rattle.view_lang.specs.Views.{passing_row, side_in};
 ghost use Rattle.upkeep.specs.Inputs.{side_from};
 ghost use Rattle.upkeep.specs.JoinedRows.{joined_cells};
 ghost use Rattle.upkeep.specs.Stores.{rows_in, tables_in, world_of};
@@ -42,7 +42,7 @@ pub(crate) fn join_row<'a>(
 ) -> Result<Option<JoinedRow<'a>>, AllocError>
     requires { IsView (tables_in stores.now) view.now }
     ensures { IfOk result (λ kept. option_map joined_cells kept
-        ≡ kept_row view.now (side_from stores.now view.now) row.entry) }
+        ≡ passing_row view.now (side_from stores.now view.now) row.entry) }
 {
     let side_row = look_up(stores, view.lookup, &row, keys)?;
     let Some(joined) = join(view.lookup, row, side_row) else {

@@ -19,7 +19,7 @@ ghost use Rattle.std.specs.Prelude.{
   slice_set,
   true,
 };
-ghost use Rattle.body_writer.specs.Places.{IsPlaced, IsRowAt, placed_rows};
+ghost use Rattle.body_writer.specs.Locations.{IsLocated, IsRowAt, located_rows};
 ghost use Rattle.body_writer.specs.RowRanges.{IsRange, ranges_rows};
 ghost use Rattle.view_lang.specs.Edits.{table_of};
 ghost use Rattle.view_lang.specs.ViewColumns.{columns_by, feed_columns, key_column};
@@ -29,14 +29,14 @@ ghost use Rattle.view_lang.specs.declared.config.Role.TheVariants.{Append, Retra
 ghost use Rattle.row_keys.specs.Slots.{
   AllOut,
   CanPutBack,
-  CanTakeBack,
+  CanRevert,
   IsLiveAt,
   live,
   put_back,
+  reverted,
   row_of,
-  taken_back,
 };
-ghost use Rattle.row_keys.specs.Places.{row_if};
+ghost use Rattle.row_keys.specs.Locations.{row_if};
 ghost use Rattle.row_keys.specs.Store.{live_in};
 ghost use Rattle.upkeep.specs.LiveParts.{AreOf, store_at, view_at};
 ghost use Rattle.upkeep.specs.LiveEdits.{Edited, NoneBecomesStale, TakesBack, WentBack};
@@ -69,7 +69,7 @@ use crate::view_state::{Turn, ViewState};
 use crate::viewed::viewed_law;
 use arrays::Column;
 use body_writer::RowRange;
-use row_keys::{EditFault, RowStore, StoredPlaces, TableChange, Visits, numbers_law};
+use row_keys::{EditFault, RowStore, StoredLocations, TableChange, Visits, numbers_law};
 use std::alloc::{AllocError, Global};
 use std::marker::Model;
 use view_lang::{Role, View};
@@ -316,9 +316,9 @@ impl LiveTables {
     }
 
     /// Undoes an append of `count` rows to the main table.
-    fn take_back(&mut self, count: usize) -> Result<(), AllocError>
-        requires { CanTakeBack count (main_slots self.old.stores) }
-        ensures { WentBack 0 (taken_back count (main_slots self.old.stores)) count self.old self.new result }
+    fn revert(&mut self, count: usize) -> Result<(), AllocError>
+        requires { CanRevert count (main_slots self.old.stores) }
+        ensures { WentBack 0 (reverted count (main_slots self.old.stores)) count self.old self.new result }
     {
         numbers_law();
         self.stores[0].rows_law();
@@ -331,7 +331,7 @@ impl LiveTables {
             count,
             &[],
         )?;
-        self.stores[0].take_back(count);
+        self.stores[0].revert(count);
         Ok(())
     }
 
@@ -363,7 +363,7 @@ impl LiveTables {
         ensures { TakesBack 0 change.now self.old self.new result }
     {
         match change {
-            TableChange::Appended(count) => self.take_back(*count),
+            TableChange::Appended(count) => self.revert(*count),
             TableChange::Retracted(numbers) => self.put_back(numbers),
             TableChange::Put { .. } => unreachable!(),
         }
@@ -483,30 +483,30 @@ impl LiveTables {
     }
 
     /// Where the visited rows of the main table lie, which are live: each by itself.
-    pub fn places(&self, visits: Visits) -> Result<StoredPlaces<'_>, AllocError>
+    pub fn locations(&self, visits: Visits) -> Result<StoredLocations<'_>, AllocError>
         requires { All (IsLiveAt (main_slots self.now.stores)) visits }
-        ensures rows { IfOk result (λ found. placed_rows found.batches.items found.places.items
+        ensures rows { IfOk result (λ found. located_rows found.batches.items found.locations.items
             ≡ map (row_of (main_slots self.now.stores)) visits) }
         ensures placed { IfOk result (λ found.
-            All (IsRowAt (width_in (tables_in self.now.stores)) found.batches.items) found.places.items) }
+            All (IsRowAt (width_in (tables_in self.now.stores)) found.batches.items) found.locations.items) }
     {
-        self.stores[0].places(visits)
+        self.stores[0].locations(visits)
     }
 
     /// Where live rows of a side table lie, each by itself. Where there is no number, the place is in no batch.
-    pub fn places_if(
+    pub fn locations_if(
         &self,
         table: usize,
         numbers: &[Option<usize>],
-    ) -> Result<StoredPlaces<'_>, AllocError>
+    ) -> Result<StoredLocations<'_>, AllocError>
         requires side { 0 < table }
         requires there { table < length self.now.stores }
         requires live { All (λ o. IfSome o (IsLiveAt (slots_in self.now.stores table))) numbers.now }
-        ensures rows { IfOk result (λ found. placed_rows found.batches.items found.places.items
+        ensures rows { IfOk result (λ found. located_rows found.batches.items found.locations.items
             ≡ map (row_if (row_of (slots_in self.now.stores table))) numbers.now) }
         ensures placed { IfOk result (λ found.
-            All (IsPlaced (width_at (tables_in self.now.stores) table) found.batches.items) found.places.items) }
+            All (IsLocated (width_at (tables_in self.now.stores) table) found.batches.items) found.locations.items) }
     {
-        self.stores[table].places_if(numbers)
+        self.stores[table].locations_if(numbers)
     }
 }

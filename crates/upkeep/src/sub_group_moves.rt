@@ -19,7 +19,7 @@ ghost use Rattle.upkeep.specs.Moves.{
   CanTurnSubGroups,
   TurnsSubGroup,
   TurnsSubGroups,
-  stand_row_of,
+  representative_row_of,
 };
 ghost use Rattle.upkeep.specs.Stores.{HaveSameRows, main_slots, rows_at, rows_in, tables_in, visits_in, world_of};
 ghost use Rattle.upkeep.specs.Swaps.{CanSwap};
@@ -119,11 +119,11 @@ fn place_of(
     requires view { IsView (tables_in stores.now) view.now }
     requires main { 0 < length stores.now }
     ensures { IfOk result (λ place. place ≡ option_map (tuple_by groups.now.groups.keys)
-        (stand_row_of stores.now view.now sub_groups.now tuple.now)) }
+        (representative_row_of stores.now view.now sub_groups.now tuple.now)) }
 {
     let width = stores[0].table().columns.len();
-    let stand_in = sub_groups.stand_in(alloc, width, tuple)?;
-    let Some(row) = joined(alloc, stores, view.lookup, stand_in, keys)? else {
+    let representative = sub_groups.representative(alloc, width, tuple)?;
+    let Some(row) = joined(alloc, stores, view.lookup, representative, keys)? else {
         return Ok(None);
     };
     if !passes_others(&view.filter, width, &row.as_slice()) {

@@ -7,7 +7,7 @@ use Rattle.std.proofs.lemmas.Cmp.{int_eq_equiv, nat_list_eq_equiv}
 use Rattle.values.specs.declared.key.Key.{Key}
 use Rattle.values.specs.declared.key.Key.TheVariants as key
 use Rattle.values.specs.contracts.key.KeyPartialEq.TheImpl as equality
-use Rattle.values.specs.KeyOrder.{KeysAreExact, KeysStandInOrder}
+use Rattle.values.specs.KeyOrder.{KeysAreExact, KeysAreOrdered}
 
 abbrev key_eq : Key → Key → Bool
 key_eq = equality.ghosts.eq
@@ -32,7 +32,7 @@ equal-keys a b h = absurd (cc)
 pub keys-exact : KeysAreExact
 keys-exact a b = (equal-keys a b, λ e. subst (λ x. key_eq a x ≡ true) e (same-key a))
 
-pub keys-ordered : KeysStandInOrder
+pub keys-ordered : KeysAreOrdered
 keys-ordered (key.Bool true) (key.Bool true) = refl
 keys-ordered (key.Bool true) (key.Bool false) = refl
 keys-ordered (key.Bool false) (key.Bool true) = refl

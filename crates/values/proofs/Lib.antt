@@ -8,3 +8,4 @@ pub mod Logicals
 pub mod ShallowLemmas
 pub mod HeadLemmas
 pub mod WordLemmas
+pub mod SingleCells

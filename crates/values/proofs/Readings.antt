@@ -45,7 +45,7 @@ use Rattle.values.specs.Reading.{
   mapped,
   must,
   each,
-  Stands,
+  FailsWith,
   IsValid,
   Fails,
   Decides,
@@ -53,26 +53,26 @@ use Rattle.values.specs.Reading.{
 }
 
 -- A fault that stands may be answered, and where another fault is read into the same one, that too.
-pub fails-stands : {X : Type 0} (c : StreamFault) (m : Reading X) → Stands m c → Fails c m
+pub fails-stands : {X : Type 0} (c : StreamFault) (m : Reading X) → FailsWith m c → Fails c m
 fails-stands fault.Memory m h = tt
 fails-stands _ m h = h
 
 pub fails_along :
-    {X Y : Type 0} (c : StreamFault) (m : Reading X) (w : Reading Y) → ((d : StreamFault) → Stands m d → Stands w d)
+    {X Y : Type 0} (c : StreamFault) (m : Reading X) (w : Reading Y) → ((d : StreamFault) → FailsWith m d → FailsWith w d)
     → Fails c m
     → Fails c w
 fails_along fault.Memory m w f h = tt
 fails_along c m w f h = f c h
 
 -- `both`: the faults of each side are the faults of the whole
-pub both_left : {F X Y Z : Type 0} (g : X → Y → Z) (a : ReadingOf F X) (b : ReadingOf F Y) (c : F) → Stands a c
-    → Stands (both g a b) c
+pub both_left : {F X Y Z : Type 0} (g : X → Y → Z) (a : ReadingOf F X) (b : ReadingOf F Y) (c : F) → FailsWith a c
+    → FailsWith (both g a b) c
 both_left g (Ok x) b c h = absurd h
 both_left g (Err fs) (Ok y) c h = h
 both_left g (Err fs) (Err gs) c h = inl h
 
-pub both_right : {F X Y Z : Type 0} (g : X → Y → Z) (a : ReadingOf F X) (b : ReadingOf F Y) (c : F) → Stands b c
-    → Stands (both g a b) c
+pub both_right : {F X Y Z : Type 0} (g : X → Y → Z) (a : ReadingOf F X) (b : ReadingOf F Y) (c : F) → FailsWith b c
+    → FailsWith (both g a b) c
 both_right g (Ok x) (Ok y) c h = absurd h
 both_right g (Err fs) (Ok y) c h = absurd h
 both_right g (Ok x) (Err gs) c h = h
@@ -90,7 +90,7 @@ fails_right g a b c h = fails_along c b (both g a b) (λ d. both_right g a b d) 
 
 -- a fault of what is read first is one of the whole
 pub bind_left :
-    {F X Y : Type 0} (m : ReadingOf F X) (f : X → ReadingOf F Y) (c : F) → Stands m c → Stands (m >>= f) c
+    {F X Y : Type 0} (m : ReadingOf F X) (f : X → ReadingOf F Y) (c : F) → FailsWith m c → FailsWith (m >>= f) c
 bind_left (Ok x) f c h = absurd h
 bind_left (Err fs) f c h = h
 
@@ -98,7 +98,7 @@ pub fails_first :
     {X Y : Type 0} (m : Reading X) (f : X → Reading Y) (c : StreamFault) → Fails c m → Fails c (m >>= f)
 fails_first m f c h = fails_along c m (m >>= f) (λ d. bind_left m f d) h
 
-pub stands_mapped : {F X Y : Type 0} (f : X → Y) (m : ReadingOf F X) (c : F) → Stands m c → Stands (mapped f m) c
+pub stands_mapped : {F X Y : Type 0} (f : X → Y) (m : ReadingOf F X) (c : F) → FailsWith m c → FailsWith (mapped f m) c
 stands_mapped f (Ok x) c h = h
 stands_mapped f (Err fs) c h = h
 
@@ -151,8 +151,8 @@ both_Ok g (Err fs) (Err gs) z e = cc
 
 -- a fault of a pair is one of a side
 pub stands_both :
-    {F X Y Z : Type 0} (g : X → Y → Z) (a : ReadingOf F X) (b : ReadingOf F Y) (c : F) → Stands (both g a b) c
-    → Stands a c ⊎ Stands b c
+    {F X Y Z : Type 0} (g : X → Y → Z) (a : ReadingOf F X) (b : ReadingOf F Y) (c : F) → FailsWith (both g a b) c
+    → FailsWith a c ⊎ FailsWith b c
 stands_both g (Ok x) (Ok y) c h = absurd h
 stands_both g (Ok x) (Err gs) c h = inr h
 stands_both g (Err fs) (Ok y) c h = inl h
@@ -228,17 +228,17 @@ valid_each f i (suc n) g (suc k) h =
     (valid_each f (i + 1) n (valid_right cons (f i) (each f (i + 1) n) g) k (omega arith))
 
 pub stands_each :
-    {F X : Type 0} (f : ℕ → ReadingOf F X) (i n : ℕ) (c : F) → Stands (each f i n) c
-    → (k : ℕ) × (k < n) × Stands (f (i + k)) c
+    {F X : Type 0} (f : ℕ → ReadingOf F X) (i n : ℕ) (c : F) → FailsWith (each f i n) c
+    → (k : ℕ) × (k < n) × FailsWith (f (i + k)) c
 unfolding each
 stands_each f i zero c h = absurd h
 stands_each f i (suc n) c h =
     elim (stands_both cons (f i) (each f (i + 1) n) c h) [
-      | inl a ↦ let j : i ≡ i + 0 = omega arith in (0, omega arith, subst (λ (m : ℕ). Stands (f m) c) j a)
+      | inl a ↦ let j : i ≡ i + 0 = omega arith in (0, omega arith, subst (λ (m : ℕ). FailsWith (f m) c) j a)
       | inr b ↦
           let r = stands_each f (i + 1) n c b in
           let j : (i + 1) + r.0 ≡ i + suc r.0 = omega arith in
-          (suc r.0, omega arith, subst (λ (m : ℕ). Stands (f m) c) j r.2)
+          (suc r.0, omega arith, subst (λ (m : ℕ). FailsWith (f m) c) j r.2)
     ]
 
 -- A loop that gathers: `with_front xs (each f i (n - i)) ≡ w` says that what was read and what is left are the whole.
@@ -252,7 +252,7 @@ front-cons :
 front-cons xs x (Ok ys) = ap (λ zs. Ok zs) (simp append_assoc)
 front-cons xs x (Err fs) = refl
 
-front-stands : {F X : Type 0} (xs : List X) (m : ReadingOf F (List X)) (c : F) → Stands m c → Stands (with_front xs m) c
+front-stands : {F X : Type 0} (xs : List X) (m : ReadingOf F (List X)) (c : F) → FailsWith m c → FailsWith (with_front xs m) c
 front-stands xs (Ok ys) c h = h
 front-stands xs (Err fs) c h = h
 
@@ -268,12 +268,12 @@ front_step f i n xs x w h e k =
 
 pub front_fault :
     {F X : Type 0} (f : ℕ → ReadingOf F X) (i n : ℕ) (xs : List X) (c : F) (w : ReadingOf F (List X)) → i < n
-    → Stands (f i) c
-    → with_front xs (each f i (n - i)) ≡ w → Stands w c
+    → FailsWith (f i) c
+    → with_front xs (each f i (n - i)) ≡ w → FailsWith w c
 front_fault f i n xs c w h s k =
     let r : ReadingOf _ (List _) = each f (i + 1) (n - (i + 1)) in
-    let Q : ReadingOf _ (List _) → Type 0 = λ m. Stands (with_front xs m) c in
-    let P : ReadingOf _ (List _) → Type 0 = λ m. Stands m c in
+    let Q : ReadingOf _ (List _) → Type 0 = λ m. FailsWith (with_front xs m) c in
+    let P : ReadingOf _ (List _) → Type 0 = λ m. FailsWith m c in
     subst P k (subst Q (sym (each_step f i n h)) (front-stands xs (both cons (f i) r) c (both_left cons (f i) r c s)))
 
 pub front_fails :
@@ -303,8 +303,8 @@ decides_both g a b w p d =
 
 pub decides_both_fault :
     {F X Y Z W : Type 0} (g : X → Y → Z) (a : ReadingOf F X) (b : ReadingOf F Y) (w : ReadingOf F W) (c : F)
-    → Stands a c
-    → Decides (both g a b) w → Stands w c
+    → FailsWith a c
+    → Decides (both g a b) w → FailsWith w c
 decides_both_fault g a b w c s d = d.fault c (both_left g a b c s)
 
 pub decides_step :
@@ -317,8 +317,8 @@ decides_step f i n w h p d =
     decides_both cons (f i) r w p (subst Q (each_step f i n h) d)
 
 pub decides_fault :
-    {F X W : Type 0} (f : ℕ → ReadingOf F X) (i n : ℕ) (w : ReadingOf F W) (c : F) → i < n → Stands (f i) c
-    → Decides (each f i (n - i)) w → Stands w c
+    {F X W : Type 0} (f : ℕ → ReadingOf F X) (i n : ℕ) (w : ReadingOf F W) (c : F) → i < n → FailsWith (f i) c
+    → Decides (each f i (n - i)) w → FailsWith w c
 decides_fault f i n w c h s d =
     let r : ReadingOf _ (List _) = each f (i + 1) (n - (i + 1)) in
     let Q : ReadingOf _ (List _) → Type 0 = λ m. Decides m w in

@@ -35,7 +35,7 @@ use Rattle.values.specs.declared.layout.Layout.TheVariants.{
   List as Listed,
   Struct,
 }
-use Rattle.values.specs.Layouts.{slot, slots, weight, items_weight, row_weight}
+use Rattle.values.specs.Layouts.{null_weight, null_weights, weight, items_weight, row_weight}
 use Rattle.values.specs.Weights.{saturated, text_in, blob_in, items_in, weights}
 
 saturated_sum : (s a r : ℕ) → saturated (saturated (s + saturated a) + r) ≡ saturated (s + (a + r))
@@ -67,28 +67,28 @@ saturated_on s x a t is sum =
     ∙ ap (λ k. saturated (s + k)) last)
 
 -- only structs weigh their children
-pub own-slot : (l : Layout) (kids : Roses Layout) → ¬ (l ≡ Struct) → slot (node l kids) ≡ slot (node l none)
-own-slot Booleans kids h = refl
-own-slot (Int w s) kids h = refl
-own-slot (Decimal p) kids h = refl
-own-slot (FixedSizeBinary w) kids h = refl
-own-slot (Utf8 o) kids h = refl
-own-slot (Binary o) kids h = refl
-own-slot (Listed o) kids h = refl
-own-slot Struct kids h = absurd (h refl)
+pub own-null_weight : (l : Layout) (kids : Roses Layout) → ¬ (l ≡ Struct) → null_weight (node l kids) ≡ null_weight (node l none)
+own-null_weight Booleans kids h = refl
+own-null_weight (Int w s) kids h = refl
+own-null_weight (Decimal p) kids h = refl
+own-null_weight (FixedSizeBinary w) kids h = refl
+own-null_weight (Utf8 o) kids h = refl
+own-null_weight (Binary o) kids h = refl
+own-null_weight (Listed o) kids h = refl
+own-null_weight Struct kids h = absurd (h refl)
 
-pub slot-saturated :
-    (l : Layout) (kids : Roses Layout) (r : ℕ) → ¬ (l ≡ Struct) → r ≡ slot (node l none) → r < 2 ^ 64
-    → r ≡ saturated (slot (node l kids))
-slot-saturated l kids r single is short = saturated_small r short ∙ ap saturated (is ∙ sym (own-slot l kids single))
+pub null_weight-saturated :
+    (l : Layout) (kids : Roses Layout) (r : ℕ) → ¬ (l ≡ Struct) → r ≡ null_weight (node l none) → r < 2 ^ 64
+    → r ≡ saturated (null_weight (node l kids))
+null_weight-saturated l kids r single is short = saturated_small r short ∙ ap saturated (is ∙ sym (own-null_weight l kids single))
 
-pub struct-saturated : (l : Layout) (kids : Roses Layout) (x r : ℕ) → l ≡ Struct → x ≡ saturated (slots kids)
-    → r ≡ saturated (1 + x) → r ≡ saturated (slot (node l kids))
+pub struct-saturated : (l : Layout) (kids : Roses Layout) (x r : ℕ) → l ≡ Struct → x ≡ saturated (null_weights kids)
+    → r ≡ saturated (1 + x) → r ≡ saturated (null_weight (node l kids))
 struct-saturated l kids x r is below sum =
-    let P : Layout → Type 0 = λ m. r ≡ saturated (slot (node m kids)) in
-    subst P (sym is) (saturated_on 1 x (slots kids) r below sum)
+    let P : Layout → Type 0 = λ m. r ≡ saturated (null_weight (node m kids)) in
+    subst P (sym is) (saturated_on 1 x (null_weights kids) r below sum)
 
-pub ruleset own_slots = (slot-saturated, struct-saturated)
+pub ruleset own_null_weights = (null_weight-saturated, struct-saturated)
 
 -- one number more of a sum that is being made
 sum_more : (s x t a r w : ℕ) → x ≡ saturated a → t ≡ saturated (s + x) → saturated (s + (a + r)) ≡ w
@@ -107,21 +107,21 @@ sum_none s r w bound nothing left =
 
 pub slots_step :
     (ts : List (Rose Layout)) (k : ℕ) (e d : Rose Layout) (s x t w : ℕ) → e ≡ get_or ts k d → k < length ts
-    → x ≡ saturated (slot e)
-    → t ≡ saturated (s + x) → saturated (s + slots (kids_of (drop k ts))) ≡ w
-    → saturated (t + slots (kids_of (drop (k + 1) ts))) ≡ w
+    → x ≡ saturated (null_weight e)
+    → t ≡ saturated (s + x) → saturated (s + null_weights (kids_of (drop k ts))) ≡ w
+    → saturated (t + null_weights (kids_of (drop (k + 1) ts))) ≡ w
 slots_step ts k e d s x t w is below here sum left =
-    let P : Roses Layout → Type 0 = λ r. saturated (s + slots r) ≡ w in
-    sum_more s x t (slot e) (slots (kids_of (drop (k + 1) ts))) w here sum (subst P (kids_step ts k e d is below) left)
+    let P : Roses Layout → Type 0 = λ r. saturated (s + null_weights r) ≡ w in
+    sum_more s x t (null_weight e) (null_weights (kids_of (drop (k + 1) ts))) w here sum (subst P (kids_step ts k e d is below) left)
 
 pub slots_end :
-    (ts : List (Rose Layout)) (k s w : ℕ) → length ts ≤ k → s < 2 ^ 64 → saturated (s + slots (kids_of (drop k ts))) ≡ w
+    (ts : List (Rose Layout)) (k s w : ℕ) → length ts ≤ k → s < 2 ^ 64 → saturated (s + null_weights (kids_of (drop k ts))) ≡ w
     → s ≡ w
 slots_end ts k s w past bound left =
-    let none_left : slots (kids_of (drop k ts)) ≡ 0 = ap slots (kids_end ts k past) in
-    sum_none s (slots (kids_of (drop k ts))) w bound none_left left
+    let none_left : null_weights (kids_of (drop k ts)) ≡ 0 = ap null_weights (kids_end ts k past) in
+    sum_none s (null_weights (kids_of (drop k ts))) w bound none_left left
 
-pub ruleset slot_sums = (slots_step, slots_end, kid_smaller)
+pub ruleset null_weight_sums = (slots_step, slots_end, kid_smaller)
 
 -- over a list's items
 
@@ -203,58 +203,58 @@ pub ruleset row_sums = (row_step, row_end_trees, row_end_cells, kid_smaller)
 
 -- by layout
 
-text-slot : (o : OffsetWidth) (kids : Roses Layout) (d : Datum) → 5 + length (text_in d) ≡ weight (node (Utf8 o) kids) d
-text-slot o kids null = refl
-text-slot o kids (truth b) = refl
-text-slot o kids (whole z) = refl
-text-slot o kids (text t) = refl
-text-slot o kids (bytes b) = refl
-text-slot o kids (list es) = refl
-text-slot o kids (structure es) = refl
+text-null_weight : (o : OffsetWidth) (kids : Roses Layout) (d : Datum) → 5 + length (text_in d) ≡ weight (node (Utf8 o) kids) d
+text-null_weight o kids null = refl
+text-null_weight o kids (truth b) = refl
+text-null_weight o kids (whole z) = refl
+text-null_weight o kids (text t) = refl
+text-null_weight o kids (bytes b) = refl
+text-null_weight o kids (list es) = refl
+text-null_weight o kids (structure es) = refl
 
-bytes-slot : (o : OffsetWidth) (kids : Roses Layout) (d : Datum)
+bytes-null_weight : (o : OffsetWidth) (kids : Roses Layout) (d : Datum)
     → 5 + length (blob_in d) ≡ weight (node (Binary o) kids) d
-bytes-slot o kids null = refl
-bytes-slot o kids (truth b) = refl
-bytes-slot o kids (whole z) = refl
-bytes-slot o kids (text t) = refl
-bytes-slot o kids (bytes b) = refl
-bytes-slot o kids (list es) = refl
-bytes-slot o kids (structure es) = refl
+bytes-null_weight o kids null = refl
+bytes-null_weight o kids (truth b) = refl
+bytes-null_weight o kids (whole z) = refl
+bytes-null_weight o kids (text t) = refl
+bytes-null_weight o kids (bytes b) = refl
+bytes-null_weight o kids (list es) = refl
+bytes-null_weight o kids (structure es) = refl
 
-list-slot : (o : OffsetWidth) (d : Datum) → 5 ≡ weight (node (Listed o) none) d
-list-slot o null = refl
-list-slot o (truth b) = refl
-list-slot o (whole z) = refl
-list-slot o (text t) = refl
-list-slot o (bytes b) = refl
-list-slot o (list es) = refl
-list-slot o (structure es) = refl
+list-null_weight : (o : OffsetWidth) (d : Datum) → 5 ≡ weight (node (Listed o) none) d
+list-null_weight o null = refl
+list-null_weight o (truth b) = refl
+list-null_weight o (whole z) = refl
+list-null_weight o (text t) = refl
+list-null_weight o (bytes b) = refl
+list-null_weight o (list es) = refl
+list-null_weight o (structure es) = refl
 
-struct-slot : (d : Datum) → 1 ≡ weight (node Struct none) d
-struct-slot null = refl
-struct-slot (truth b) = refl
-struct-slot (whole z) = refl
-struct-slot (text t) = refl
-struct-slot (bytes b) = refl
-struct-slot (list es) = refl
-struct-slot (structure es) = refl
+struct-null_weight : (d : Datum) → 1 ≡ weight (node Struct none) d
+struct-null_weight null = refl
+struct-null_weight (truth b) = refl
+struct-null_weight (whole z) = refl
+struct-null_weight (text t) = refl
+struct-null_weight (bytes b) = refl
+struct-null_weight (list es) = refl
+struct-null_weight (structure es) = refl
 
 pub text-own : (l : Layout) (o : OffsetWidth) (d : Datum) (n : ℕ) → l ≡ Utf8 o → n ≡ length (text_in d)
     → 5 + n ≡ weight (node l none) d
 text-own l o d n is len =
     let P : Layout → Type 0 = λ m. 5 + n ≡ weight (node m none) d in
-    subst P (sym is) (ap (λ k. 5 + k) len ∙ text-slot o none d)
+    subst P (sym is) (ap (λ k. 5 + k) len ∙ text-null_weight o none d)
 
 pub bytes-own : (l : Layout) (o : OffsetWidth) (d : Datum) (n : ℕ) → l ≡ Binary o → n ≡ length (blob_in d)
     → 5 + n ≡ weight (node l none) d
 bytes-own l o d n is len =
     let P : Layout → Type 0 = λ m. 5 + n ≡ weight (node m none) d in
-    subst P (sym is) (ap (λ k. 5 + k) len ∙ bytes-slot o none d)
+    subst P (sym is) (ap (λ k. 5 + k) len ∙ bytes-null_weight o none d)
 
 pub bare-own :
     (l : Layout) (d : Datum) (r : ℕ) → ((o : OffsetWidth) → ¬ (l ≡ Utf8 o)) → ((o : OffsetWidth) → ¬ (l ≡ Binary o))
-    → r ≡ slot (node l none)
+    → r ≡ null_weight (node l none)
     → r ≡ weight (node l none) d
 bare-own Booleans d r no_text no_bytes is = is
 bare-own (Int w s) d r no_text no_bytes is = is
@@ -262,8 +262,8 @@ bare-own (Decimal p) d r no_text no_bytes is = is
 bare-own (FixedSizeBinary w) d r no_text no_bytes is = is
 bare-own (Utf8 o) d r no_text no_bytes is = absurd (no_text o refl)
 bare-own (Binary o) d r no_text no_bytes is = absurd (no_bytes o refl)
-bare-own (Listed o) d r no_text no_bytes is = is ∙ list-slot o d
-bare-own Struct d r no_text no_bytes is = is ∙ struct-slot d
+bare-own (Listed o) d r no_text no_bytes is = is ∙ list-null_weight o d
+bare-own Struct d r no_text no_bytes is = is ∙ struct-null_weight d
 
 pub ruleset own_weights = (text-own, bytes-own, bare-own)
 
@@ -274,8 +274,8 @@ own-weight Booleans kids d no_list no_struct = refl
 own-weight (Int w s) kids d no_list no_struct = refl
 own-weight (Decimal p) kids d no_list no_struct = refl
 own-weight (FixedSizeBinary w) kids d no_list no_struct = refl
-own-weight (Utf8 o) kids d no_list no_struct = sym (text-slot o none d) ∙ text-slot o kids d
-own-weight (Binary o) kids d no_list no_struct = sym (bytes-slot o none d) ∙ bytes-slot o kids d
+own-weight (Utf8 o) kids d no_list no_struct = sym (text-null_weight o none d) ∙ text-null_weight o kids d
+own-weight (Binary o) kids d no_list no_struct = sym (bytes-null_weight o none d) ∙ bytes-null_weight o kids d
 own-weight (Listed o) kids d no_list no_struct = absurd (no_list o refl)
 own-weight Struct kids d no_list no_struct = absurd (no_struct refl)
 

@@ -12,5 +12,5 @@ abbrev pub KeysAreExact : Type 0
 KeysAreExact = (a b : Key) → Decides (equality.ghosts.eq a b) (a ≡ b)
 
 -- `cmp` on keys is the order of the values that they are
-abbrev pub KeysStandInOrder : Type 0
-KeysStandInOrder = (a b : Key) → order.ghosts.cmp a b ≡ datum_cmp (datum_of_key a) (datum_of_key b)
+abbrev pub KeysAreOrdered : Type 0
+KeysAreOrdered = (a b : Key) → order.ghosts.cmp a b ≡ datum_cmp (datum_of_key a) (datum_of_key b)

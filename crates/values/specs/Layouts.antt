@@ -46,9 +46,22 @@ bytes_in int.Bits16 = 2
 bytes_in int.Bits32 = 4
 bytes_in int.Bits64 = 8
 
+-- Whole numbers of a width, with a sign or without: the least and the greatest.
+abbrev pub least_of : IntWidth → Bool → ℤ
+least_of w true = neg_ℤ (pos (2 ^ (8 * bytes_in w - 1)))
+least_of w false = pos 0
+
+abbrev pub greatest_of : IntWidth → Bool → ℤ
+greatest_of w true = pos (2 ^ (8 * bytes_in w - 1) - 1)
+greatest_of w false = pos (2 ^ (8 * bytes_in w) - 1)
+
 abbrev pub offset_bytes : OffsetWidth → ℕ
 offset_bytes offset.Bits32 = 4
 offset_bytes offset.Bits64 = 8
+
+-- what an offset of 32 bits is below
+abbrev pub offset_bound : ℕ
+offset_bound = 2 ^ 31
 
 -- A list has one child, a struct any number, and nothing else has children. A decimal has at most 38 digits.
 abbrev pub IsNode : Layout → Roses Layout → Type 0
@@ -141,19 +154,19 @@ abbrev mutual
 -- The weight of a null, and of each value before what it holds beyond its slot: 1, and 1 for a bit, the width in bytes
 -- of a slot of fixed width, 4 for an offset, or the children's slots.
 abbrev mutual
-  pub slot : Rose Layout → ℕ
-  slot (node Booleans kids) = 2
-  slot (node (Int w s) kids) = 1 + bytes_in w
-  slot (node (Decimal p) kids) = 17
-  slot (node (FixedSizeBinary w) kids) = 1 + w
-  slot (node (Utf8 o) kids) = 5
-  slot (node (Binary o) kids) = 5
-  slot (node (Listed o) kids) = 5
-  slot (node Struct kids) = 1 + slots kids
+  pub null_weight : Rose Layout → ℕ
+  null_weight (node Booleans kids) = 2
+  null_weight (node (Int w s) kids) = 1 + bytes_in w
+  null_weight (node (Decimal p) kids) = 17
+  null_weight (node (FixedSizeBinary w) kids) = 1 + w
+  null_weight (node (Utf8 o) kids) = 5
+  null_weight (node (Binary o) kids) = 5
+  null_weight (node (Listed o) kids) = 5
+  null_weight (node Struct kids) = 1 + null_weights kids
 
-  pub slots : Roses Layout → ℕ
-  slots none = 0
-  slots (more t ts) = slot t + slots ts
+  pub null_weights : Roses Layout → ℕ
+  null_weights none = 0
+  null_weights (more t ts) = null_weight t + null_weights ts
 
 -- The weight of a value: its slot, with the bytes of a text or of bytes, or the weights of a list's items; of a struct
 -- 1, and the weights of its children.
@@ -163,7 +176,7 @@ abbrev mutual
   weight (node (Binary o) kids) (bytes b) = 5 + length b
   weight (node (Listed o) kids) (list es) = 5 + items_weight kids es
   weight (node Struct kids) (structure es) = 1 + row_weight kids es
-  weight t d = slot t
+  weight t d = null_weight t
 
   pub items_weight : Roses Layout → Items → ℕ
   items_weight none es = 0

@@ -27,8 +27,8 @@ abbrev pub max_fixed_width : ℕ
 max_fixed_width = 65536
 
 -- the weight of a null of a field's type, and how many values a dictionary may have
-abbrev pub max_slot : ℕ
-max_slot = 2 ^ 20
+abbrev pub max_null_weight : ℕ
+max_null_weight = 2 ^ 20
 
 abbrev pub max_dictionary_values : ℕ
 max_dictionary_values = 2 ^ 20

@@ -90,9 +90,9 @@ each f i zero = Ok []
 each f i (suc n) = both cons (f i) (each f (i + 1) n)
 
 -- this fault stands
-abbrev pub Stands : {F X : Type 0} → ReadingOf F X → F → Type 0
-Stands (Ok x) c = ⊥
-Stands (Err fs) c = IsAmong fs c
+abbrev pub FailsWith : {F X : Type 0} → ReadingOf F X → F → Type 0
+FailsWith (Ok x) c = ⊥
+FailsWith (Err fs) c = IsAmong fs c
 
 -- no fault stands
 abbrev pub IsValid : {F X : Type 0} → ReadingOf F X → Type 0
@@ -102,13 +102,13 @@ IsValid (Err fs) = ⊥
 -- A refusal is right: the fault stands, or memory ran out.
 abbrev pub Fails : {X : Type 0} → StreamFault → Reading X → Type 0
 Fails fault.Memory m = Unit {0}
-Fails c m = Stands m c
+Fails c m = FailsWith m c
 
 -- What a call answers that reads without taking memory: `Ok` exactly where no fault stands, and then the value
 -- as contracts see it; otherwise a fault that stands.
 abbrev pub Yields : {F X Y : Type 0} → (X → Y) → Result X F → ReadingOf F Y → Type 0
 Yields view (Ok x) m = m ≡ Ok (view x)
-Yields view (Err c) m = Stands m c
+Yields view (Err c) m = FailsWith m c
 
 -- the same of a call that takes memory, which may run out
 abbrev pub Answers : {X Y : Type 0} → (X → Y) → Result X StreamFault → Reading Y → Type 0
@@ -118,12 +118,12 @@ Answers view (Err c) m = Fails c m
 -- what a check answers that gives no value: `Ok` exactly where no fault stands
 abbrev pub Passes : {F X : Type 0} → Result (Unit {0}) F → ReadingOf F X → Type 0
 Passes (Ok u) m = IsValid m
-Passes (Err c) m = Stands m c
+Passes (Err c) m = FailsWith m c
 
 -- What is left to read decides the whole: the invariant of a loop that checks one thing after another.
 pub record Decides {F X Y : Type 0} (rest : ReadingOf F X) (whole : ReadingOf F Y) : Type 0 where
   pub valid : IsValid rest → IsValid whole
-  pub fault : (c : F) → Stands rest c → Stands whole c
+  pub fault : (c : F) → FailsWith rest c → FailsWith whole c
 
 -- a list that is read after another: the invariant of a loop that gathers
 abbrev pub with_front : {F X : Type 0} → List X → ReadingOf F (List X) → ReadingOf F (List X)

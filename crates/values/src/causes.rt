@@ -32,7 +32,7 @@ pub enum Cause {
     BigEndian = 10,
     #[error("a column has a type that isn't read")]
     UnsupportedType = 11,
-    #[error("a type's table is absent, or a parameter, the children or the slot of a type are out of range")]
+    #[error("a type's table is absent, or its parameter, its children or the weight of its null are out of range")]
     BadType = 12,
     #[error("there are more than 1,024 fields at all levels, or a field is deeper than 16")]
     TooManyFields = 13,
@@ -106,13 +106,13 @@ pub enum Cause {
     DuplicateColumn = 63,
     #[error("what is written for a type is none, or has a parameter out of its range")]
     TypeText = 64,
-    #[error("a constant isn't of its column's type, or two columns that are compared have different types")]
+    #[error("a constant isn't of its column's type or is out of its range, or two columns that are compared, or `on` of a lookup and the side table's key, have different types")]
     ConstantType = 65,
     #[error("a sum is of other values than integers or decimals of at most 28 digits")]
     SumType = 66,
-    #[error("a list or a struct stands where values must have an order: as a key, in a comparison, a group or an order, or under `least` or `greatest`")]
+    #[error("a list or a struct stands where values must have an order: as a key, as `on` of a lookup, in a comparison, a group or an order, or under `distinct`, `least` or `greatest`")]
     OrderType = 67,
-    #[error("a count, a depth, a slot, the length of a name or how many rows a view has is out of its limits")]
+    #[error("a count, a depth, the weight of a type's null, the length of a name or how many rows a view has is out of its limits")]
     OverLimit = 68,
     #[error("an entry is missing or unknown, or a value isn't of the form that its place wants")]
     Shape = 69,

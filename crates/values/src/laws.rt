@@ -1,14 +1,14 @@
 //! Laws of the definitions: functions that do nothing, whose contracts are theorems.
 
 ghost use Rattle.std.specs.Prelude.{◌≡◌};
-ghost use Rattle.values.specs.KeyOrder.{KeysAreExact, KeysStandInOrder};
+ghost use Rattle.values.specs.KeyOrder.{KeysAreExact, KeysAreOrdered};
 ghost use Rattle.values.specs.Limits.{
   max_metadata_size,
   max_body_size,
   max_fields,
   max_depth,
   max_name_len,
-  max_slot,
+  max_null_weight,
   max_dictionary_values,
   max_batch_length,
   max_node_length,
@@ -25,14 +25,14 @@ ghost use Rattle.values.specs.TypeEquality.{TypesAreExact};
 use crate::limits::{
     MAX_BATCH_LENGTH, MAX_BATCH_ROWS, MAX_BATCH_WEIGHT, MAX_BODY_SIZE, MAX_CELL_WEIGHT, MAX_DEPTH,
     MAX_DICTIONARY_VALUES, MAX_FIELDS, MAX_FIXED_WIDTH, MAX_MAIN_ROWS, MAX_METADATA_SIZE,
-    MAX_NAME_LEN, MAX_NODE_LENGTH, MAX_PRECISION, MAX_ROW_WEIGHT, MAX_SLOT,
+    MAX_NAME_LEN, MAX_NODE_LENGTH, MAX_NULL_WEIGHT, MAX_PRECISION, MAX_ROW_WEIGHT,
 };
 
 /// Keys are equal exactly where they are the same value, and stand in the order of values.
 #[tactic(auto, using(crate::proofs::KeyLaws::key_laws))]
 pub fn key_law()
     ensures equal { KeysAreExact }
-    ensures ordered { KeysStandInOrder }
+    ensures ordered { KeysAreOrdered }
 {}
 
 /// `==` on types of columns, and on what they are made of, answers true exactly where both are the same.
@@ -50,7 +50,7 @@ pub fn limits_law()
     ensures name_len { MAX_NAME_LEN ≡ max_name_len }
     ensures precision { MAX_PRECISION ≡ max_precision }
     ensures fixed_width { MAX_FIXED_WIDTH ≡ max_fixed_width }
-    ensures slot { MAX_SLOT ≡ max_slot }
+    ensures null_weight { MAX_NULL_WEIGHT ≡ max_null_weight }
     ensures dictionary_values { MAX_DICTIONARY_VALUES ≡ max_dictionary_values }
     ensures batch_length { MAX_BATCH_LENGTH ≡ max_batch_length }
     ensures node_length { MAX_NODE_LENGTH ≡ max_node_length }

@@ -2,7 +2,7 @@
 
 ghost use Rattle.std.specs.Prelude.{◌≡◌, ◌*◌, ◌≤◌, ◌^◌};
 ghost use Rattle.values.specs.Rose.{node, none};
-ghost use Rattle.values.specs.Layouts.{bytes_in, offset_bytes, slot};
+ghost use Rattle.values.specs.Layouts.{bytes_in, greatest_of, least_of, null_weight, offset_bytes};
 
 use std::marker::Model;
 
@@ -36,6 +36,35 @@ impl IntWidth {
         ensures few { result ≤ 64 }
     {
         8 * self.bytes() as u32
+    }
+
+    /// The least number of this width.
+    pub fn least(self, signed: bool) -> i128
+        ensures { result ≡ least_of self signed }
+    {
+        match (self, signed) {
+            (IntWidth::Bits8, true) => i128::from(i8::MIN),
+            (IntWidth::Bits16, true) => i128::from(i16::MIN),
+            (IntWidth::Bits32, true) => i128::from(i32::MIN),
+            (IntWidth::Bits64, true) => i128::from(i64::MIN),
+            (_, false) => 0,
+        }
+    }
+
+    /// The greatest number of this width.
+    pub fn greatest(self, signed: bool) -> i128
+        ensures { result ≡ greatest_of self signed }
+    {
+        match (self, signed) {
+            (IntWidth::Bits8, true) => i128::from(i8::MAX),
+            (IntWidth::Bits16, true) => i128::from(i16::MAX),
+            (IntWidth::Bits32, true) => i128::from(i32::MAX),
+            (IntWidth::Bits64, true) => i128::from(i64::MAX),
+            (IntWidth::Bits8, false) => i128::from(u8::MAX),
+            (IntWidth::Bits16, false) => i128::from(u16::MAX),
+            (IntWidth::Bits32, false) => i128::from(u32::MAX),
+            (IntWidth::Bits64, false) => i128::from(u64::MAX),
+        }
     }
 }
 
@@ -81,8 +110,8 @@ pub enum Layout {
 
 impl Layout {
     /// The weight of a null of this layout, without the slots of a struct's children.
-    pub fn own_slot(self) -> u64
-        ensures value { result ≡ slot (node self none) }
+    pub fn own_null_weight(self) -> u64
+        ensures value { result ≡ null_weight (node self none) }
         ensures bound { result ≤ 2 ^ 32 }
     {
         match self {

@@ -42,5 +42,5 @@ pub use layout::{IntWidth, Layout, LayoutTree, OffsetWidth};
 pub use order::{cmp_cells, cmp_values};
 pub use schema::{LogicalField, Schema};
 pub use units::{DateUnit, TimeUnit};
-pub use weigh::{row_weight, slot, weight};
+pub use weigh::{null_weight, row_weight, weight};
 pub use zone::Zone;

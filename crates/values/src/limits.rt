@@ -22,7 +22,7 @@ pub const MAX_PRECISION: u8 = 38;
 pub const MAX_FIXED_WIDTH: u32 = 65_536;
 
 /// The greatest weight of a null of a field's type.
-pub const MAX_SLOT: u64 = 1 << 20;
+pub const MAX_NULL_WEIGHT: u64 = 1 << 20;
 
 /// The most values that a dictionary may hold.
 pub const MAX_DICTIONARY_VALUES: usize = 1 << 20;

@@ -2,7 +2,7 @@
 
 use crate::{
     CellView, ColType, DateUnit, IntWidth, Key, KeyBuffer, Kind, Layout, LayoutTree, LogicalField,
-    OffsetWidth, Schema, TimeUnit, Value, cmp_cells, cmp_values, copy_row, row_weight, slot,
+    OffsetWidth, Schema, TimeUnit, Value, cmp_cells, cmp_values, copy_row, null_weight, row_weight,
     weight,
 };
 use std::alloc::{AllocError, Global};
@@ -116,11 +116,11 @@ fn nested_layout(alloc: Global) -> Result<LayoutTree, AllocError> {
 }
 
 #[test]
-fn weighs_by_slots(rt: HostRuntime) -> Result<(), Fail> {
+fn weighs_by_null_weights(rt: HostRuntime) -> Result<(), Fail> {
     let alloc = rt.alloc();
     let layout = nested_layout(alloc)?;
     let null = Value { kind: Kind::Null };
-    assert_eq!(rt; slot(&layout), 11);
+    assert_eq!(rt; null_weight(&layout), 11);
     assert_eq!(rt; weight(&layout, &null), 11);
     assert_eq!(rt; weight(&layout, &nested(alloc)?), 17);
     let layouts = vec![in alloc; layout, leaf(alloc, Layout::Decimal { precision: 9 })]?;
@@ -146,14 +146,16 @@ fn weighs_by_width(rt: HostRuntime) -> Result<(), Fail> {
         (Layout::Utf8 { offsets }, 5),
         (Layout::Struct, 1),
     ] {
-        assert_eq!(rt; layout.own_slot(), expected);
-        assert_eq!(rt; slot(&leaf(rt.alloc(), layout)), expected);
+        assert_eq!(rt; layout.own_null_weight(), expected);
+        assert_eq!(rt; null_weight(&leaf(rt.alloc(), layout)), expected);
     }
     let text = text(rt.alloc(), "abc")?;
     assert_eq!(rt; Layout::Utf8 { offsets }.own_weight(&text), 8);
     assert_eq!(rt; Layout::Bool.own_weight(&text), 2);
     assert_eq!(rt; offsets.bytes(), 8);
     assert_eq!(rt; width.bytes(), 8);
+    assert_eq!(rt; width.least(true), i128::from(i64::MIN));
+    assert_eq!(rt; width.greatest(false), i128::from(u64::MAX));
     Ok(())
 }
 

@@ -5,8 +5,8 @@ ghost use Rattle.values.specs.Rose.{node, none, kids_of};
 ghost use Rattle.values.specs.Datum.{items_of};
 ghost use Rattle.values.specs.declared.layout.Layout.TheVariants.{Struct};
 ghost use Rattle.values.specs.Layouts.{
-  slot as slot_by,
-  slots as slots_by,
+  null_weight as null_weight_by,
+  null_weights as null_weights_by,
   weight as weight_by,
   items_weight,
   row_weight as row_weight_by,
@@ -25,32 +25,32 @@ fn add(weight: u64, more: u64) -> u64
 
 /// The weight of a null of this layout: 1, and what a slot takes in its buffers, a bit counted as 1 and an offset as 4;
 /// of a struct 1, and its children's slots.
-#[cycle(slot)]
-pub fn slot(layout: &LayoutTree) -> u64
-    ensures { result ≡ saturated (slot_by layout.now) }
+#[cycle(null_weight)]
+pub fn null_weight(layout: &LayoutTree) -> u64
+    ensures { result ≡ saturated (null_weight_by layout.now) }
 {
-    slot_of(layout.layout, &layout.children)
+    null_weight_of(layout.layout, &layout.children)
 }
 
-#[cycle(slot)]
-#[tactic(auto, using(crate::proofs::WeightLemmas::own_slots))]
-fn slot_of(layout: Layout, children: &[LayoutTree]) -> u64
-    ensures { result ≡ saturated (slot_by (node layout (kids_of children.now))) }
+#[cycle(null_weight)]
+#[tactic(auto, using(crate::proofs::WeightLemmas::own_null_weights))]
+fn null_weight_of(layout: Layout, children: &[LayoutTree]) -> u64
+    ensures { result ≡ saturated (null_weight_by (node layout (kids_of children.now))) }
 {
     match layout {
-        Layout::Struct => add(1, slots(children)),
-        _ => layout.own_slot(),
+        Layout::Struct => add(1, null_weights(children)),
+        _ => layout.own_null_weight(),
     }
 }
 
-#[cycle(slot)]
-#[tactic(auto, using(crate::proofs::WeightLemmas::slot_sums))]
-fn slots(children: &[LayoutTree]) -> u64
-    ensures { result ≡ saturated (slots_by (kids_of children.now)) }
+#[cycle(null_weight)]
+#[tactic(auto, using(crate::proofs::WeightLemmas::null_weight_sums))]
+fn null_weights(children: &[LayoutTree]) -> u64
+    ensures { result ≡ saturated (null_weights_by (kids_of children.now)) }
 {
     let mut sum = 0;
     for child in children {
-        sum = add(sum, slot(child));
+        sum = add(sum, null_weight(child));
     }
     sum
 }
@@ -84,7 +84,7 @@ impl Layout {
         match self {
             Layout::Utf8 { .. } => 5 + text_len(value) as u64,
             Layout::Binary { .. } => 5 + blob_len(value) as u64,
-            _ => self.own_slot(),
+            _ => self.own_null_weight(),
         }
     }
 }
@@ -150,7 +150,7 @@ fn weigh_struct(children: &[LayoutTree], value: &Value) -> u64
 {
     match &value.kind {
         Kind::Struct(cells) => add(1, row_weight(children, cells)),
-        _ => slot_of(Layout::Struct, children),
+        _ => null_weight_of(Layout::Struct, children),
     }
 }
 

@@ -1,16 +1,16 @@
 -- A cause of a part is a cause of the whole.
 use Rattle.values.proofs.Readings.{both_left, both_right, bind_left, stands_mapped}
-use Rattle.values.specs.Reading.{◌>>=◌, both, mapped, Stands}
+use Rattle.values.specs.Reading.{◌>>=◌, both, mapped, FailsWith}
 use Rattle.view_config.specs.Reading.{Reading, Fails}
 use Rattle.view_config.specs.declared.faults.ConfigFault.{ConfigFault}
 use Rattle.view_config.specs.declared.faults.ConfigFault.TheVariants as fault
 
-pub fails-stands : {X : Type 0} (c : ConfigFault) (m : Reading X) → Stands m c → Fails c m
+pub fails-stands : {X : Type 0} (c : ConfigFault) (m : Reading X) → FailsWith m c → Fails c m
 fails-stands fault.Memory m h = tt
 fails-stands _ m h = h
 
 pub fails_along :
-    {X Y : Type 0} (c : ConfigFault) (m : Reading X) (w : Reading Y) → ((d : ConfigFault) → Stands m d → Stands w d)
+    {X Y : Type 0} (c : ConfigFault) (m : Reading X) (w : Reading Y) → ((d : ConfigFault) → FailsWith m d → FailsWith w d)
     → Fails c m
     → Fails c w
 fails_along fault.Memory m w f h = tt

@@ -6,7 +6,7 @@ use Rattle.std.proofs.lemmas.List.{drop_all, drop_more}
 use Rattle.toml.specs.Data.{Data}
 use Rattle.toml.specs.View.{view, items_view, members_view}
 use Rattle.toml.specs.declared.value.Value.{Value}
-use Rattle.values.specs.Reading.{both, cons, Stands, with_front}
+use Rattle.values.specs.Reading.{both, cons, FailsWith, with_front}
 use Rattle.values.proofs.Readings.{both_left, front_none}
 use Rattle.view_config.specs.Reading.{Reading, Fails}
 use Rattle.view_config.specs.Tree.{each_item, each_member}
@@ -25,8 +25,8 @@ front-cons :
 front-cons xs x (Ok ys) = ap (λ zs. Ok zs) (simp append_assoc)
 front-cons xs x (Err fs) = refl
 
-front-stands : {X : Type 0} (xs : List X) (m : Reading (List X)) (c : ConfigFault) → Stands m c
-    → Stands (with_front xs m) c
+front-stands : {X : Type 0} (xs : List X) (m : Reading (List X)) (c : ConfigFault) → FailsWith m c
+    → FailsWith (with_front xs m) c
 front-stands xs (Ok ys) c h = h
 front-stands xs (Err fs) c h = h
 
@@ -49,7 +49,7 @@ items_front_fails f vs i d xs c w h s k =
     let r : Reading (List _) = each_item f (items_view (drop (i + 1) vs)) in
     let Q : Reading (List _) → Type 0 = λ m. with_front xs m ≡ w in
     let j : with_front xs (both cons (f (view (get_or vs i d))) r) ≡ w = subst Q (items-step f vs i d h) k in
-    let P : (e : ConfigFault) → Reading (List _) → Type 0 = λ e m. Stands m e in
+    let P : (e : ConfigFault) → Reading (List _) → Type 0 = λ e m. FailsWith m e in
     fails_along c (f (view (get_or vs i d))) w
     (λ e t. subst (P e) j (front-stands xs _ e (both_left cons (f (view (get_or vs i d))) r e t))) s
 
@@ -83,7 +83,7 @@ unfolding each_member
 entries_front_fails f k v es xs c w s h =
     let r : Reading (List _) = each_member f (members_view es) in
     let a : Reading _ = f (string_bytes k) (view v) in
-    let P : (e : ConfigFault) → Reading (List _) → Type 0 = λ e m. Stands m e in
+    let P : (e : ConfigFault) → Reading (List _) → Type 0 = λ e m. FailsWith m e in
     fails_along c a w (λ e t. subst (P e) h (front-stands xs _ e (both_left cons a r e t))) s
 
 pub entries_front_end :

@@ -5,7 +5,7 @@ pub mod Arrays
 pub mod Names
 pub mod Fields
 pub mod FieldCounts
-pub mod Slots
+pub mod NullWeights
 pub mod GatheredItems
 pub mod Joined
 pub mod FilterDepths

@@ -3,7 +3,7 @@ use Rattle.std.proofs.Common.{◌≡◌, ℕ, ◌+◌, ◌*◌, ◌%◌, ◌<◌
 use Rattle.std.proofs.Common.{get_or, drop, refl, ap, sym, subst, ◌∙◌, arith, append_assoc, append-nil}
 use Rattle.std.specs.Prelude.{◌≢◌, option_map}
 use Rattle.std.proofs.lemmas.List.{drop_all, drop_more}
-use Rattle.values.specs.Reading.{must, Stands}
+use Rattle.values.specs.Reading.{must, FailsWith}
 use Rattle.view_config.specs.Constants.{and_then, byte_of, pairs}
 use Rattle.view_config.specs.Reading.{Fails}
 use Rattle.view_config.specs.declared.faults.ConfigFault.{ConfigFault}
@@ -77,8 +77,8 @@ nothing-behind None = refl
 nothing-behind (Some ys) = refl
 
 -- what must be there, and isn't
-pub must_None : {X : Type 0} (c : ConfigFault) (o : Option X) → o ≡ None → Stands (must c o) c
-must_None c o e = subst (λ (p : Option _). Stands (must c p) c) (sym e) refl
+pub must_None : {X : Type 0} (c : ConfigFault) (o : Option X) → o ≡ None → FailsWith (must c o) c
+must_None c o e = subst (λ (p : Option _). FailsWith (must c p) c) (sym e) refl
 
 pub must_Some : {X : Type 0} (c : ConfigFault) (o : Option X) (x : X) → o ≡ Some x → must c o ≡ Ok x
 must_Some c o x e = ap (must c) e
@@ -93,8 +93,8 @@ must-then c None f x e = cc
 must-then c (Some y) f x e = let same : y ≡ x = cc in ap (λ z. must c (f z)) same
 
 stands-then :
-    {X Y : Type 0} (c : ConfigFault) (o : Option X) (f : X → Option Y) (d : ConfigFault) → Stands (must c o) d
-    → Stands (must c (and_then o f)) d
+    {X Y : Type 0} (c : ConfigFault) (o : Option X) (f : X → Option Y) (d : ConfigFault) → FailsWith (must c o) d
+    → FailsWith (must c (and_then o f)) d
 stands-then c None f d h = h
 stands-then c (Some y) f d h = absurd h
 

@@ -1,6 +1,6 @@
 -- What came of reading a part tells whether it is refused, and a refused part whether the whole is.
 use Rattle.std.proofs.Common.{◌≡◌, Option, None, Some, Result, Ok, Err, is_err, true, refl, subst, sym}
-use Rattle.values.specs.Reading.{◌>>=◌, both, Stands}
+use Rattle.values.specs.Reading.{◌>>=◌, both, FailsWith}
 use Rattle.view_config.specs.Places.{Finds}
 use Rattle.view_config.specs.Reading.{Answers, Fails, Reading}
 use Rattle.view_config.specs.declared.faults.ConfigFault.{ConfigFault}
@@ -11,7 +11,7 @@ abbrev pub Judges : {X Y : Type 0} → (X → Y) → Reading Y → Option X → 
 Judges view m (Some x) = m ≡ Ok (view x)
 Judges view m None = is_err m ≡ true
 
-stands-err : {X : Type 0} (c : ConfigFault) (m : Reading X) → Stands m c → is_err m ≡ true
+stands-err : {X : Type 0} (c : ConfigFault) (m : Reading X) → FailsWith m c → is_err m ≡ true
 stands-err c (Ok x) h = absurd h
 stands-err c (Err fs) h = refl
 

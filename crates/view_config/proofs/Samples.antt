@@ -16,7 +16,7 @@ use Rattle.view_config.specs.Lookups.{lookup_of}
 use Rattle.view_config.specs.Dict.{coded_output, dict_of}
 use Rattle.view_config.specs.Views.{having_in, order_by_of, order_of, view_in, view_of}
 use Rattle.view_config.specs.Config.{config_of, text_means}
-use Rattle.view_config.specs.Worked.{ConstantsRead, FaultsStand, LimitsTaken, amounts, amounts_text, pairs, pairs_text, texts, texts_text, zones, zones_text}
+use Rattle.view_config.specs.Worked.{ConstantsRead, FaultsAreFound, LimitsAreAccepted, amounts, amounts_text, pairs, pairs_text, texts, texts_text, zones, zones_text}
 
 -- what a sample unfolds: the words of types, of tables, of filters, and of all else
 unfoldable types_on_literals : ⊤
@@ -65,7 +65,7 @@ pub sample-texts : text_means texts_text ≡ Ok texts
 unfolding toml_on_literals all_on_literals config_of text_means
 sample-texts = refl
 
-pub sample-faults : FaultsStand
+pub sample-faults : FaultsAreFound
 unfolding toml_on_literals all_on_literals config_of text_means
 sample-faults = record {
   not_toml = refl;
@@ -143,7 +143,7 @@ sample-faults = record {
   first_text = refl;
 }
 
-pub sample-limits : LimitsTaken
+pub sample-limits : LimitsAreAccepted
 unfolding toml_on_literals all_on_literals config_of text_means
 sample-limits = record {
   deep_filter = tt;

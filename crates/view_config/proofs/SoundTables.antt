@@ -7,8 +7,8 @@ use Rattle.std.proofs.Common.{Ordering, Less, Equal, Greater}
 use Rattle.std.proofs.lemmas.Bool.{and_parts, leb-true}
 use Rattle.toml.specs.Data.{as_str, Data, string, integer, float, boolean, datetime, array, table, Items, no_items}
 use Rattle.toml.specs.Data.{item, Members, no_members, member, get_member}
-use Rattle.values.specs.Layouts.{slot}
-use Rattle.values.specs.Limits.{max_depth, max_fields, max_main_rows, max_slot}
+use Rattle.values.specs.Layouts.{null_weight}
+use Rattle.values.specs.Limits.{max_depth, max_fields, max_main_rows, max_null_weight}
 use Rattle.values.specs.Logical.{NamedType, trees_of}
 use Rattle.values.specs.Reading.{◌>>=◌, cons, first, must, refused_if}
 use Rattle.values.specs.Rose.{Rose, Roses, none, more, node, kids_of, roses_size}
@@ -20,7 +20,7 @@ use Rattle.view_lang.specs.Limits.{max_columns}
 use Rattle.view_config.specs.Columns.{find, ordered}
 use Rattle.view_config.specs.Reading.{Reading}
 use Rattle.view_config.specs.Tree.{count_items, each_item, items_in, members_in, needed, only, pair_in, text_in}
-use Rattle.view_config.specs.Limits.{are_within_slot, column_limits, column_name, few_fields, is_within_slot}
+use Rattle.view_config.specs.Limits.{column_limits, column_name, few_fields, null_weight_fits, null_weights_fit}
 use Rattle.view_config.specs.ColumnTypes.{field_of}
 use Rattle.view_config.specs.Tables.{column_of, columns_of, few_columns, key_of, keyed, main_of, ordered_column}
 use Rattle.view_config.specs.Tables.{table_entries, table_of}
@@ -99,14 +99,14 @@ pub needed-textual : (key : List ℕ) (ms : Members) (d : Data) → needed key m
 needed-textual key ms d e h = entry-textual key ms d (must_Ok fault.Shape (get_member key ms) d e) h
 
 mutual
-  slim-sound : (t : Rose Layout) → is_within_slot t ≡ true → IsSlim t
+  slim-sound : (t : Rose Layout) → null_weight_fits t ≡ true → IsSlim t
   slim-sound (node l kids) e =
-      let p = and_parts (nat_le (slot (node l kids)) max_slot) (are_within_slot kids) e in
-      (leb-true (slot (node l kids)) max_slot p.0, slims-sound kids p.1)
+      let p = and_parts (nat_le (null_weight (node l kids)) max_null_weight) (null_weights_fit kids) e in
+      (leb-true (null_weight (node l kids)) max_null_weight p.0, slims-sound kids p.1)
 
-  slims-sound : (ts : Roses Layout) → are_within_slot ts ≡ true → AreSlim ts
+  slims-sound : (ts : Roses Layout) → null_weights_fit ts ≡ true → AreSlim ts
   slims-sound none e = tt
-  slims-sound (more t ts) e = let p = and_parts (is_within_slot t) (are_within_slot ts) e in
+  slims-sound (more t ts) e = let p = and_parts (null_weight_fits t) (null_weights_fit ts) e in
       (slim-sound t p.0, slims-sound ts p.1)
 
 column_of-sound : (d : Data) (f : Rose NamedType) → IsTextual d → column_of d ≡ Ok f → IsColumn max_depth f
@@ -127,12 +127,12 @@ columns-sound d cs t e =
     bound (each_item column_of ds) _ cs e2 (λ fs c e3.
     bound (column_limits fs) _ cs e3 (λ v f e4.
     bound (few_fields fs) _ v f (λ x few f1.
-    bound (refused_if fault.OverLimit (not (are_within_slot (trees_of (kids_of fs))))) _ v f1 (λ y slim f2.
+    bound (refused_if fault.OverLimit (not (null_weights_fit (trees_of (kids_of fs))))) _ v f1 (λ y slim f2.
     let count = columns-some ds u b in
     let long = items-length column_of ds fs c in
     let fields = items-fields max_depth column_of ds fs column_of-sound (items-textual d ds a t) c in
     let light = slims-sound (trees_of (kids_of fs))
-    (slim-true (are_within_slot (trees_of (kids_of fs))) (passed fault.OverLimit _ y slim)) in
+    (slim-true (null_weights_fit (trees_of (kids_of fs))) (passed fault.OverLimit _ y slim)) in
     let same : fs ≡ cs = cc in
     subst AreColumns same (record {
       some = omega (arith, count.0, long);

@@ -5,7 +5,7 @@ use Rattle.std.specs.Prelude.{min, option_map}
 use Rattle.toml.specs.Data.{Data, string, integer, boolean}
 use Rattle.values.specs.ColTypes.{width_of_date, width_of_time}
 use Rattle.values.specs.Datum.{Datum, truth, whole, text, bytes}
-use Rattle.values.specs.Layouts.{bytes_in}
+use Rattle.values.specs.Layouts.{bytes_in, greatest_of, least_of}
 use Rattle.values.specs.Limits.{max_precision}
 use Rattle.values.specs.Reading.{must}
 use Rattle.values.specs.declared.layout.IntWidth.{IntWidth}
@@ -22,15 +22,6 @@ and_then (Some x) f = f x
 abbrev pub truth_in : Data → Option Datum
 truth_in (boolean b) = Some (truth b)
 truth_in d = None
-
--- Whole numbers of a width, with a sign or without: the least and the greatest.
-abbrev pub least_of : IntWidth → Bool → ℤ
-least_of w true = neg_ℤ (pos (2 ^ (8 * bytes_in w - 1)))
-least_of w false = pos 0
-
-abbrev pub greatest_of : IntWidth → Bool → ℤ
-greatest_of w true = pos (2 ^ (8 * bytes_in w - 1) - 1)
-greatest_of w false = pos (2 ^ (8 * bytes_in w) - 1)
 
 abbrev pub whole_in : IntWidth → Bool → Data → Option Datum
 whole_in w signed (integer z) =

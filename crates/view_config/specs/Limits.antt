@@ -1,8 +1,8 @@
 -- The limits of columns: of their names, of how many fields they have at all levels, and of what their slots weigh.
 use Rattle.std.specs.Prelude.{◌≡◌, ℕ, ◌+◌, ◌<◌, ◌^◌, nat_le, nat_lt, not, ◌&&◌, Bool, true, false, MatchOption, Option}
 use Rattle.std.specs.Prelude.{Ok, Err, List, length, if◌then◌else◌, map}
-use Rattle.values.specs.Limits.{max_fields, max_slot}
-use Rattle.values.specs.Layouts.{slot, slots}
+use Rattle.values.specs.Limits.{max_fields, max_null_weight}
+use Rattle.values.specs.Layouts.{null_weight, null_weights}
 use Rattle.values.specs.Logical.{NamedType, trees_of}
 use Rattle.values.specs.Reading.{◌>>=◌, one, refused_if}
 use Rattle.values.specs.Rose.{Rose, node, Roses, none, more, kids_of, roses_size}
@@ -46,18 +46,18 @@ few_fields cs = refused_if fault.OverLimit (nat_lt max_fields (roses_size (kids_
 
 -- A slot weighs at most 2^20, at each level.
 abbrev mutual
-  pub is_within_slot : Rose Layout → Bool
-  is_within_slot (node l kids) = nat_le (slot (node l kids)) max_slot && are_within_slot kids
+  pub null_weight_fits : Rose Layout → Bool
+  null_weight_fits (node l kids) = nat_le (null_weight (node l kids)) max_null_weight && null_weights_fit kids
 
-  pub are_within_slot : Roses Layout → Bool
-  are_within_slot none = true
-  are_within_slot (more t ts) = is_within_slot t && are_within_slot ts
+  pub null_weights_fit : Roses Layout → Bool
+  null_weights_fit none = true
+  null_weights_fit (more t ts) = null_weight_fits t && null_weights_fit ts
 
 -- the limits of a table's columns
 unfoldable pub column_limits : List (Rose NamedType) → Reading (Unit {0})
 column_limits cs = do
   _ ← few_fields cs
-  _ ← refused_if fault.OverLimit (not (are_within_slot (trees_of (kids_of cs))))
+  _ ← refused_if fault.OverLimit (not (null_weights_fit (trees_of (kids_of cs))))
   distinct (map name_of cs)
 
 -- the fields of columns, at all levels
@@ -70,7 +70,7 @@ IsRoomAfter room n left = MatchOption left (room < n) (λ m. m + n ≡ room)
 
 -- the slot of a layout, and those of layouts summed; none where one at some level is above the limit
 abbrev pub IsSlotOf : Option ℕ → Rose Layout → Type 0
-IsSlotOf o t = MatchOption o (is_within_slot t ≡ false) (λ n. (is_within_slot t ≡ true) × (n ≡ slot t))
+IsSlotOf o t = MatchOption o (null_weight_fits t ≡ false) (λ n. (null_weight_fits t ≡ true) × (n ≡ null_weight t))
 
 abbrev pub AreSlotsOf : Option ℕ → Roses Layout → Type 0
-AreSlotsOf o ts = MatchOption o (are_within_slot ts ≡ false) (λ n. (are_within_slot ts ≡ true) × (n ≡ slots ts))
+AreSlotsOf o ts = MatchOption o (null_weights_fit ts ≡ false) (λ n. (null_weights_fit ts ≡ true) × (n ≡ null_weights ts))

@@ -1,6 +1,6 @@
 -- What a configuration means where causes may stand: a value, or a set of causes that isn't empty.
 use Rattle.std.specs.Prelude.{◌≡◌, Result, Ok, Err}
-use Rattle.values.specs.Reading.{ReadingOf, Stands}
+use Rattle.values.specs.Reading.{FailsWith, ReadingOf}
 use Rattle.view_config.specs.declared.faults.ConfigFault.{ConfigFault}
 use Rattle.view_config.specs.declared.faults.ConfigFault.TheVariants as fault
 
@@ -10,7 +10,7 @@ Reading X = ReadingOf ConfigFault X
 -- A refusal is right: the cause stands, or memory ran out.
 abbrev pub Fails : {X : Type 0} → ConfigFault → Reading X → Type 0
 Fails fault.Memory m = Unit {0}
-Fails c m = Stands m c
+Fails c m = FailsWith m c
 
 -- What a call answers that may run out of memory: `Ok` exactly where no cause stands, and then the value as contracts
 -- see it; otherwise a cause that stands.

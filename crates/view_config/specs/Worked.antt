@@ -255,7 +255,7 @@ abbrev wide : List ℕ → List ℕ
 wide [] = []
 wide (c ∷ cs) = wide_child c ++ wide cs
 
-pub record FaultsStand : Type 0 where
+pub record FaultsAreFound : Type 0 where
   pub not_toml : HasFault (codes "[main\n") fault.NotToml
   pub unknown_key : HasFault (main_text (codes "ix") (codes "[\"id\", \"int64\"]")) fault.UnknownName
   pub unknown_column : HasFault (with_view (codes "[\"a\", \"col\", [\"main\", \"y\"]]")) fault.UnknownName
@@ -344,7 +344,7 @@ pub record FaultsStand : Type 0 where
   pub first_text : HasFault (shows (codes "first = \"1\"")) fault.Shape
 
 -- texts at the limits
-pub record LimitsTaken : Type 0 where
+pub record LimitsAreAccepted : Type 0 where
   pub deep_filter : IsValid (text_means (filtered (within 15)))
   pub many_parts : IsValid (text_means (filtered (any_of 254)))
   pub first : IsValid (text_means (shows (codes "first = 16777216")))

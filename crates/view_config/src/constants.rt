@@ -9,9 +9,7 @@ ghost use Rattle.view_config.specs.Constants.{
   decimal_in,
   digits_after,
   fixed_in,
-  greatest_of,
   held,
-  least_of,
   magnitude,
 };
 ghost use Rattle.view_config.specs.Constants.{nibble, pairs, pointed, some_digits, text_constant, truth_in, unscaled};
@@ -35,42 +33,13 @@ fn truth_in(value: &Value) -> Option<Constant>
     }
 }
 
-/// The least whole number of this width.
-fn least_of(width: IntWidth, signed: bool) -> i128
-    ensures { result ≡ least_of width signed }
-{
-    match (width, signed) {
-        (IntWidth::Bits8, true) => i128::from(i8::MIN),
-        (IntWidth::Bits16, true) => i128::from(i16::MIN),
-        (IntWidth::Bits32, true) => i128::from(i32::MIN),
-        (IntWidth::Bits64, true) => i128::from(i64::MIN),
-        (_, false) => 0,
-    }
-}
-
-/// The greatest whole number of this width.
-fn greatest_of(width: IntWidth, signed: bool) -> i128
-    ensures { result ≡ greatest_of width signed }
-{
-    match (width, signed) {
-        (IntWidth::Bits8, true) => i128::from(i8::MAX),
-        (IntWidth::Bits16, true) => i128::from(i16::MAX),
-        (IntWidth::Bits32, true) => i128::from(i32::MAX),
-        (IntWidth::Bits64, true) => i128::from(i64::MAX),
-        (IntWidth::Bits8, false) => i128::from(u8::MAX),
-        (IntWidth::Bits16, false) => i128::from(u16::MAX),
-        (IntWidth::Bits32, false) => i128::from(u32::MAX),
-        (IntWidth::Bits64, false) => i128::from(u64::MAX),
-    }
-}
-
 fn whole_in(width: IntWidth, signed: bool, value: &Value) -> Option<Constant>
     ensures { result ≡ whole_in width signed (view value.now) }
 {
     match value {
         Value::Integer(number) => {
             let number = i128::from(*number);
-            if least_of(width, signed) <= number && number <= greatest_of(width, signed) {
+            if width.least(signed) <= number && number <= width.greatest(signed) {
                 Some(Constant {
                     kind: Kind::Int(number),
                 })

@@ -2,7 +2,7 @@
 
 ghost use Rattle.std.specs.Prelude.{◌≡◌, Ok};
 ghost use Rattle.view_config.specs.Config.{text_means};
-ghost use Rattle.view_config.specs.Worked.{ConstantsRead, FaultsStand, LimitsTaken, amounts, amounts_text, pairs};
+ghost use Rattle.view_config.specs.Worked.{ConstantsRead, FaultsAreFound, LimitsAreAccepted, amounts, amounts_text, pairs};
 ghost use Rattle.view_config.specs.Worked.{pairs_text, texts, texts_text, zones, zones_text};
 
 /// Four configurations are what their texts mean, each of some wrong texts has its one fault, texts at the limits have
@@ -12,7 +12,7 @@ pub fn worked_law()
     ensures pairs { text_means pairs_text ≡ Ok pairs }
     ensures zones { text_means zones_text ≡ Ok zones }
     ensures texts { text_means texts_text ≡ Ok texts }
-    ensures faults { FaultsStand }
-    ensures limits { LimitsTaken }
+    ensures faults { FaultsAreFound }
+    ensures limits { LimitsAreAccepted }
     ensures constants { ConstantsRead }
 {}

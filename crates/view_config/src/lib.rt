@@ -39,4 +39,4 @@ mod views;
 pub use config::read_config;
 pub use faults::ConfigFault;
 pub use laws::worked_law;
-pub use places::{Place, find_fault};
+pub use places::{FaultLocation, find_fault};

@@ -1,7 +1,7 @@
 //! The limits of columns: of their names, of how many fields they have at all levels, and of what their slots weigh.
 
 ghost use Rattle.std.specs.Prelude.{◌≤◌, ◌*◌, IfSome, map};
-ghost use Rattle.values.specs.Limits.{max_fields, max_slot};
+ghost use Rattle.values.specs.Limits.{max_fields, max_null_weight};
 ghost use Rattle.values.specs.Logical.{tree_of, trees_of};
 ghost use Rattle.values.specs.Reading.{Yields};
 ghost use Rattle.values.specs.Rose.{kids_of, rose_size, roses_size};
@@ -11,7 +11,7 @@ ghost use Rattle.view_config.specs.Limits.{few_fields};
 
 use crate::columns::repeats;
 use crate::faults::ConfigFault;
-use values::limits::{MAX_FIELDS, MAX_SLOT};
+use values::limits::{MAX_FIELDS, MAX_NULL_WEIGHT};
 use values::{Layout, LogicalField};
 use view_lang::MAX_COLUMN_NAME_LEN;
 
@@ -86,39 +86,39 @@ pub(crate) fn check_count(fields: &[LogicalField]) -> Result<(), ConfigFault>
 }
 
 /// The weight of a null of a field; `None` where it, or that of a field below it, is above the limit.
-#[cycle(slots)]
-#[tactic(auto, using(crate::proofs::Slots::slot_lemmas))]
-fn slot_of(field: &LogicalField) -> Option<u64>
+#[cycle(null_weights)]
+#[tactic(auto, using(crate::proofs::NullWeights::null_weight_lemmas))]
+fn null_weight_of(field: &LogicalField) -> Option<u64>
     requires { rose_size field.now ≤ max_fields }
     ensures value { IsSlotOf result (tree_of field.now) }
-    ensures bound { IfSome result (λ n. n ≤ max_slot) }
+    ensures bound { IfSome result (λ n. n ≤ max_null_weight) }
 {
-    let below = slots_of(&field.children)?;
+    let below = null_weights_of(&field.children)?;
     let layout = field.col_type.layout();
-    let slot = match layout {
+    let null_weight = match layout {
         Layout::Struct => 1 + below,
-        _ => layout.own_slot(),
+        _ => layout.own_null_weight(),
     };
-    if slot > MAX_SLOT {
+    if null_weight > MAX_NULL_WEIGHT {
         return None;
     }
-    Some(slot)
+    Some(null_weight)
 }
 
 /// The summed weight of nulls of these fields; `None` where that of one of them, or of a field below them, is above the
 /// limit.
-#[cycle(slots)]
-#[tactic(auto, using(crate::proofs::Slots::slot_lemmas))]
-fn slots_of(fields: &[LogicalField]) -> Option<u64>
+#[cycle(null_weights)]
+#[tactic(auto, using(crate::proofs::NullWeights::null_weight_lemmas))]
+fn null_weights_of(fields: &[LogicalField]) -> Option<u64>
     requires { roses_size (kids_of fields.now) ≤ max_fields }
     ensures value { AreSlotsOf result (trees_of (kids_of fields.now)) }
-    ensures bound { IfSome result (λ n. n ≤ max_slot * roses_size (kids_of fields.now)) }
+    ensures bound { IfSome result (λ n. n ≤ max_null_weight * roses_size (kids_of fields.now)) }
 {
-    let mut slots = 0;
+    let mut null_weights = 0;
     for field in fields {
-        slots += slot_of(field)?;
+        null_weights += null_weight_of(field)?;
     }
-    Some(slots)
+    Some(null_weights)
 }
 
 /// Refuses columns above the limits of a table, as `OverLimit`, or two with the same name, as `DuplicateColumn`.
@@ -127,7 +127,7 @@ pub(crate) fn check_columns(columns: &[LogicalField]) -> Result<(), ConfigFault>
     ensures { Yields (λ u. u) result (column_limits columns.now) }
 {
     check_count(columns)?;
-    if slots_of(columns).is_none() {
+    if null_weights_of(columns).is_none() {
         return Err(ConfigFault::OverLimit);
     }
     check_distinct(columns)

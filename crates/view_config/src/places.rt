@@ -28,29 +28,29 @@ use view_lang::{SideTable, Table};
 
 /// Where a configuration is refused.
 #[derive(Debug, Drop, PartialEq, Eq)]
-pub enum Place {
+pub enum FaultLocation {
     /// The line of the text, counted from 1, at which it stops being TOML.
     Line(usize),
     /// The keys of the part that is refused, from the document on: `view`, `totals`, `order`.
     Keys(Vec<String>),
 }
 
-impl Place {
-    fn of(alloc: Global, keys: &[&str]) -> Result<Place, AllocError> {
+impl FaultLocation {
+    fn of(alloc: Global, keys: &[&str]) -> Result<FaultLocation, AllocError> {
         let mut owned = Vec::new(alloc);
         for key in keys {
             owned.push(String::from_str(alloc, key)?)?;
         }
-        Ok(Place::Keys(owned))
+        Ok(FaultLocation::Keys(owned))
     }
 }
 
 /// `line 3`, or the keys as TOML writes them: `view.totals.order`.
-impl fmt::Display for Place {
+impl fmt::Display for FaultLocation {
     fn fmt<W: fmt::Write>(&self, f: &mut fmt::Formatter<W>) -> fmt::Result {
         let keys = match self {
-            Place::Line(line) => return write!(f, "line {line}"),
-            Place::Keys(keys) => keys,
+            FaultLocation::Line(line) => return write!(f, "line {line}"),
+            FaultLocation::Keys(keys) => keys,
         };
         let mut dot = "";
         for key in keys {
@@ -69,13 +69,13 @@ impl fmt::Display for Place {
 /// Finds where the configuration of a text is refused: the first part that is, in the order in which `read_config` reads
 /// them; none where it is accepted.
 #[tactic(auto, unfolding(crate::specs::Config::text_means))]
-pub fn find_fault(alloc: Global, text: &str) -> Result<Option<Place>, AllocError>
+pub fn find_fault(alloc: Global, text: &str) -> Result<Option<FaultLocation>, AllocError>
     ensures { IfOk result (λ found. is_some found ≡ is_err (text_means text.now)) }
 {
     match toml::table_from_str(alloc, text) {
         Ok(entries) => find_in(alloc, &entries),
         Err(error) => match error.span() {
-            Some(span) => Ok(Some(Place::Line(line_at(text, span.start)))),
+            Some(span) => Ok(Some(FaultLocation::Line(line_at(text, span.start)))),
             None => Err(AllocError),
         },
     }
@@ -99,11 +99,11 @@ fn readable<T: Drop>(read: Result<T, ConfigFault>) -> Result<Option<T>, AllocErr
 }
 
 #[tactic(auto, using(crate::proofs::Refused::refusing), unfolding(crate::specs::Config::config_of))]
-fn find_in(alloc: Global, entries: &Entries) -> Result<Option<Place>, AllocError>
+fn find_in(alloc: Global, entries: &Entries) -> Result<Option<FaultLocation>, AllocError>
     ensures { IfOk result (λ found. is_some found ≡ is_err (config_of (table_view entries.now))) }
 {
     if let Some(key) = unknown(entries, SECTIONS) {
-        return Ok(Some(Place::of(alloc, &[key])?));
+        return Ok(Some(FaultLocation::of(alloc, &[key])?));
     }
     let Some(main) = readable(read_main(alloc, entries))? else {
         return Ok(Some(place_in_main(alloc, entries)?));
@@ -126,10 +126,10 @@ fn place_by(
     section: &str,
     name: &str,
     entry: Option<&str>,
-) -> Result<Place, AllocError> {
+) -> Result<FaultLocation, AllocError> {
     match entry {
-        Some(entry) => Place::of(alloc, &[section, name, entry]),
-        None => Place::of(alloc, &[section, name]),
+        Some(entry) => FaultLocation::of(alloc, &[section, name, entry]),
+        None => FaultLocation::of(alloc, &[section, name]),
     }
 }
 
@@ -141,20 +141,20 @@ fn few_entries<'a>(entries: &'a Entries, section: &str, most: usize) -> Option<&
     }
 }
 
-fn place_in_main(alloc: Global, entries: &Entries) -> Result<Place, AllocError> {
+fn place_in_main(alloc: Global, entries: &Entries) -> Result<FaultLocation, AllocError> {
     let refused = match entry_at(entries, "main") {
         Some(main) => table_entry(alloc, main)?,
         None => None,
     };
     match refused {
-        Some(key) => Place::of(alloc, &["main", key]),
-        None => Place::of(alloc, &["main"]),
+        Some(key) => FaultLocation::of(alloc, &["main", key]),
+        None => FaultLocation::of(alloc, &["main"]),
     }
 }
 
-fn place_in_sides(alloc: Global, entries: &Entries) -> Result<Place, AllocError> {
+fn place_in_sides(alloc: Global, entries: &Entries) -> Result<FaultLocation, AllocError> {
     let Some(sides) = few_entries(entries, "side", MAX_SIDE_TABLES) else {
-        return Place::of(alloc, &["side"]);
+        return FaultLocation::of(alloc, &["side"]);
     };
     for (name, value) in sides {
         let name = name.as_str();
@@ -165,23 +165,23 @@ fn place_in_sides(alloc: Global, entries: &Entries) -> Result<Place, AllocError>
             return place_by(alloc, "side", name, table_entry(alloc, value)?);
         }
     }
-    Place::of(alloc, &["side"])
+    FaultLocation::of(alloc, &["side"])
 }
 
 fn place_in_feeds(
     alloc: Global,
     sides: &[SideTable],
     entries: &Entries,
-) -> Result<Place, AllocError> {
+) -> Result<FaultLocation, AllocError> {
     let Some(feeds) = few_entries(entries, "feed", MAX_FEEDS) else {
-        return Place::of(alloc, &["feed"]);
+        return FaultLocation::of(alloc, &["feed"]);
     };
     for (name, value) in feeds {
         if readable(read_feed(alloc, sides, name.as_str(), value))?.is_none() {
             return place_by(alloc, "feed", name.as_str(), None);
         }
     }
-    Place::of(alloc, &["feed"])
+    FaultLocation::of(alloc, &["feed"])
 }
 
 fn place_in_views(
@@ -189,9 +189,9 @@ fn place_in_views(
     main: &Table,
     sides: &[SideTable],
     entries: &Entries,
-) -> Result<Place, AllocError> {
+) -> Result<FaultLocation, AllocError> {
     let Some(views) = few_entries(entries, "view", MAX_VIEWS) else {
-        return Place::of(alloc, &["view"]);
+        return FaultLocation::of(alloc, &["view"]);
     };
     for (name, value) in views {
         let name = name.as_str();
@@ -202,7 +202,7 @@ fn place_in_views(
             return place_by(alloc, "view", name, view_entry(alloc, main, sides, value)?);
         }
     }
-    Place::of(alloc, &["view"])
+    FaultLocation::of(alloc, &["view"])
 }
 
 /// The entry that is refused of a table that is.

@@ -23,8 +23,8 @@ use Rattle.std.proofs.Common.{
 }
 use Rattle.std.proofs.lemmas.Bool.{le-ltb, ltb-false}
 use Rattle.values.specs.Datum.{Datum, null, items_of}
-use Rattle.values.specs.Layouts.{Holds, HoldsEach, row_weight, slot, weight}
-use Rattle.values.specs.Limits.{max_cell_weight, max_row_weight, max_slot}
+use Rattle.values.specs.Layouts.{Holds, HoldsEach, null_weight, row_weight, weight}
+use Rattle.values.specs.Limits.{max_cell_weight, max_null_weight, max_row_weight}
 use Rattle.values.specs.Logical.{NamedType, tree_of, trees_of}
 use Rattle.values.specs.Rose.{Rose, node, Roses, more, kids_of}
 use Rattle.values.specs.declared.layout.Layout.{Layout}
@@ -136,15 +136,15 @@ renamed_fits name (node f kids) d fits = fits
 
 -- Each layout holds null, which weighs its slot.
 
-null_weight : (t : Rose Layout) → weight t null ≡ slot t
-null_weight (node layout.Bool kids) = refl
-null_weight (node (layout.Int w s) kids) = refl
-null_weight (node (layout.Decimal p) kids) = refl
-null_weight (node (layout.FixedSizeBinary w) kids) = refl
-null_weight (node (layout.Utf8 o) kids) = refl
-null_weight (node (layout.Binary o) kids) = refl
-null_weight (node (layout.List o) kids) = refl
-null_weight (node layout.Struct kids) = refl
+weight_of_null : (t : Rose Layout) → weight t null ≡ null_weight t
+weight_of_null (node layout.Bool kids) = refl
+weight_of_null (node (layout.Int w s) kids) = refl
+weight_of_null (node (layout.Decimal p) kids) = refl
+weight_of_null (node (layout.FixedSizeBinary w) kids) = refl
+weight_of_null (node (layout.Utf8 o) kids) = refl
+weight_of_null (node (layout.Binary o) kids) = refl
+weight_of_null (node (layout.List o) kids) = refl
+weight_of_null (node layout.Struct kids) = refl
 
 null_held : (t : Rose Layout) → Holds t null
 null_held (node layout.Bool kids) = tt
@@ -156,11 +156,11 @@ null_held (node (layout.Binary o) kids) = tt
 null_held (node (layout.List o) kids) = tt
 null_held (node layout.Struct kids) = tt
 
-slim_slot : (t : Rose Layout) → IsSlim t → slot t ≤ max_slot
+slim_slot : (t : Rose Layout) → IsSlim t → null_weight t ≤ max_null_weight
 slim_slot (node l kids) slim = slim.0
 
 pub null_fits : (t : Rose Layout) → IsSlim t → Fits t null
-null_fits t slim = record { held = null_held t; light = omega (arith, null_weight t, slim_slot t slim) }
+null_fits t slim = record { held = null_held t; light = omega (arith, weight_of_null t, slim_slot t slim) }
 
 pub nulls_fit : (fs : List (Rose NamedType)) → AreSlim (trees_of (kids_of fs)) → AreFit fs (replicate (length fs) null)
 nulls_fit [] slim = tt

@@ -3,13 +3,13 @@ use Rattle.std.proofs.Common.{ℕ, All, List, refl, subst}
 use Rattle.std.specs.List.{AllByRecursion}
 use Rattle.std.proofs.lemmas.List.Elements.{All-weaker, recursion_from_All}
 use Rattle.values.specs.ColTypes.{IsSingle, layout_of}
-use Rattle.values.specs.Datum.{Datum, list, structure, Items}
+use Rattle.values.specs.Datum.{Datum, list, structure}
 use Rattle.values.specs.Layouts.{Holds}
 use Rattle.values.specs.Logical.{NamedType, tree_of}
 use Rattle.values.specs.Rose.{Rose, Roses, node}
 use Rattle.values.specs.declared.col_type.ColType.{ColType}
-use Rattle.values.specs.declared.col_type.ColType.TheVariants as col
 use Rattle.values.specs.declared.layout.Layout.{Layout}
+use Rattle.values.proofs.SingleCells.{no_list, no_structure}
 use Rattle.view_lang.specs.Cells.{cell_at}
 use Rattle.view_lang.specs.ConfigRules.{AreOutputs, IsGroupOutput}
 use Rattle.view_lang.specs.Aggregates.{IsAggregate, ComparesKeys, IsKeyCell}
@@ -27,19 +27,6 @@ use Rattle.view_lang.proofs.CellFits.{AreFit, cell_fits}
 use Rattle.view_lang.proofs.Columns.{joined_such}
 use Rattle.view_lang.proofs.InputRows.{input_few, input_fits}
 use Rattle.view_lang.proofs.ViewRows.{outputs_fit}
-
--- Only a type with children holds a list or a struct.
-
-no_list : (t : ColType) (kids : Roses Layout) (es : Items) → IsSingle t → Holds (node (layout_of t) kids) (list es) → ⊥
-no_list (col.List o) kids es single held = single
-no_list col.Struct kids es single held = single
-no_list t kids es single held = held
-
-no_structure :
-    (t : ColType) (kids : Roses Layout) (es : Items) → IsSingle t → Holds (node (layout_of t) kids) (structure es) → ⊥
-no_structure (col.List o) kids es single held = single
-no_structure col.Struct kids es single held = single
-no_structure t kids es single held = held
 
 single_key :
     (t : ColType) (kids : Roses Layout) (d : Datum) → IsSingle t → Holds (node (layout_of t) kids) d → IsKeyCell d

@@ -7,7 +7,7 @@ use Rattle.values.specs.Datum.{Datum}
 use Rattle.view_lang.specs.Joined.{joined, joined_row}
 use Rattle.view_lang.specs.Truth.{passes}
 use Rattle.view_lang.specs.ViewLaws.{KeptOneByOne, ShownOneByOne}
-use Rattle.view_lang.specs.Views.{kept_row, shown_row, view_input}
+use Rattle.view_lang.specs.Views.{passing_row, shown_row, view_input}
 
 module _ (p : List Datum → Bool) where
   kept_by :
@@ -44,6 +44,6 @@ module _ (show : List Datum → List Datum) where
 
 pub shown-one_by_one : ShownOneByOne
 shown-one_by_one v outputs side rows =
-    shown_each (shown_row outputs) (kept_row v side) rows ∙ ap (map (shown_row outputs)) (kept-one_by_one v side rows)
+    shown_each (shown_row outputs) (passing_row v side) rows ∙ ap (map (shown_row outputs)) (kept-one_by_one v side rows)
 
 pub ruleset one_by_one_laws = (kept-one_by_one, shown-one_by_one)

@@ -50,28 +50,28 @@ abbrev pub layouts_of : Table → Roses Layout
 layouts_of t = trees_of (kids_of t.columns)
 
 -- Whether a cause stands against rows that come after all others.
-abbrev pub rows_stand : Table → Contents → List (List Datum) → Unfit → Bool
-rows_stand t c rows unfit.NullKey = has_null (keys_in t rows)
-rows_stand t c rows unfit.DuplicateKey = has_repeated (keys_in t rows) || any_among (keys_in t rows) (keys_in t c.live)
-rows_stand t c rows unfit.UnknownKey = false
-rows_stand t c rows unfit.TooManyRows =
+abbrev pub rows_have_cause : Table → Contents → List (List Datum) → Unfit → Bool
+rows_have_cause t c rows unfit.NullKey = has_null (keys_in t rows)
+rows_have_cause t c rows unfit.DuplicateKey = has_repeated (keys_in t rows) || any_among (keys_in t rows) (keys_in t c.live)
+rows_have_cause t c rows unfit.UnknownKey = false
+rows_have_cause t c rows unfit.TooManyRows =
     nat_lt t.max_rows (length c.live + length rows) || nat_lt max_appended_rows (c.appended + length rows)
-rows_stand t c rows unfit.CellTooHeavy = any_heavy (layouts_of t) rows
+rows_have_cause t c rows unfit.CellTooHeavy = any_heavy (layouts_of t) rows
 
 -- Whether a cause stands against keys whose rows are to go. Weight is no cause here: keys of live rows aren't too
 -- heavy.
-abbrev pub keys_stand : Table → Contents → List Datum → Unfit → Bool
-keys_stand t c keys unfit.NullKey = has_null keys
-keys_stand t c keys unfit.DuplicateKey = has_repeated keys
-keys_stand t c keys unfit.UnknownKey = not (all_among keys (keys_in t c.live))
-keys_stand t c keys unfit.TooManyRows = false
-keys_stand t c keys unfit.CellTooHeavy = false
+abbrev pub keys_have_cause : Table → Contents → List Datum → Unfit → Bool
+keys_have_cause t c keys unfit.NullKey = has_null keys
+keys_have_cause t c keys unfit.DuplicateKey = has_repeated keys
+keys_have_cause t c keys unfit.UnknownKey = not (all_among keys (keys_in t c.live))
+keys_have_cause t c keys unfit.TooManyRows = false
+keys_have_cause t c keys unfit.CellTooHeavy = false
 
 -- Rows that are put come after the others once those with their keys are gone.
 abbrev pub stands : Table → Contents → TableEdit → Unfit → Bool
-stands t c (append rows) u = rows_stand t c rows u
-stands t c (retract keys) u = keys_stand t c keys u
-stands t c (put rows) u = rows_stand t (without_keys t (keys_in t rows) c) rows u
+stands t c (append rows) u = rows_have_cause t c rows u
+stands t c (retract keys) u = keys_have_cause t c keys u
+stands t c (put rows) u = rows_have_cause t (without_keys t (keys_in t rows) c) rows u
 
 -- all causes, in the order of their numbers
 abbrev pub causes : List Unfit

@@ -3,8 +3,8 @@ use Rattle.std.specs.Prelude.{◌≡◌, ℕ, ◌≤◌, List, Some, length, sli
 use Rattle.values.specs.ColTypes.{IsSingle, IsType}
 use Rattle.values.specs.declared.col_type.ColType.{ColType}
 use Rattle.values.specs.declared.layout.Layout.{Layout}
-use Rattle.values.specs.Layouts.{AreLayouts, slot}
-use Rattle.values.specs.Limits.{max_depth, max_fields, max_main_rows, max_slot}
+use Rattle.values.specs.Layouts.{AreLayouts, null_weight}
+use Rattle.values.specs.Limits.{max_depth, max_fields, max_main_rows, max_null_weight}
 use Rattle.values.specs.Logical.{AreLogicalColumns, NamedType, trees_of}
 use Rattle.values.specs.Rose.{Rose, node, Roses, none, more, kids_of, roses_depth, roses_size}
 use Rattle.view_lang.specs.Limits.{max_column_name_len, max_columns, max_side_rows}
@@ -25,7 +25,7 @@ abbrev mutual
 -- no slot, at any level, is above 2^20
 abbrev mutual
   pub IsSlim : Rose Layout → Type 0
-  IsSlim (node l kids) = (slot (node l kids) ≤ max_slot) × AreSlim kids
+  IsSlim (node l kids) = (null_weight (node l kids) ≤ max_null_weight) × AreSlim kids
 
   pub AreSlim : Roses Layout → Type 0
   AreSlim none = Unit {0}

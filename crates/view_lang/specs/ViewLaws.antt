@@ -17,7 +17,7 @@ use Rattle.view_lang.specs.Outputs.{GroupOutput, Output}
 use Rattle.view_lang.specs.RowOrder.{cell_cmp, row_cmp, tuple_cmp}
 use Rattle.view_lang.specs.Sorted.{IsArranged, sorted}
 use Rattle.view_lang.specs.Truth.{Truth, holds, is_true, operand_of, truth}
-use Rattle.view_lang.specs.Views.{kept_row, shown_row, view_input}
+use Rattle.view_lang.specs.Views.{passing_row, shown_row, view_input}
 use Rattle.view_lang.specs.declared.filter.Comparison.{Comparison}
 use Rattle.view_lang.specs.declared.filter.Comparison.TheVariants as than
 use Rattle.view_lang.specs.declared.filter.Operand.{Operand}
@@ -188,11 +188,11 @@ FirstOfSorted = (o : Direction) (ds : List Datum) → first_in o ds ≡ first_or
 -- The rows that a view is made of are what it keeps of each row,
 abbrev pub KeptOneByOne : Type 0
 KeptOneByOne =
-    (v : View) (side : Side) (rows : List (List Datum)) → filter_map (kept_row v side) rows ≡ view_input v side rows
+    (v : View) (side : Side) (rows : List (List Datum)) → filter_map (passing_row v side) rows ≡ view_input v side rows
 
 -- and so are the rows that it shows of them.
 abbrev pub ShownOneByOne : Type 0
 ShownOneByOne =
     (v : View) (outputs : List Output) (side : Side) (rows : List (List Datum))
-    → filter_map (λ row. option_map (shown_row outputs) (kept_row v side row)) rows
+    → filter_map (λ row. option_map (shown_row outputs) (passing_row v side row)) rows
     ≡ map (shown_row outputs) (view_input v side rows)

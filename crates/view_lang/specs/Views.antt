@@ -18,8 +18,8 @@ unfoldable pub view_input : View → Side → List (List Datum) → List (List D
 view_input v side rows = filter (passes v.filter) (joined v.lookup side rows)
 
 -- what one row of the main table gives to these: the row joined, if it is kept
-abbrev pub kept_row : View → Side → List Datum → Option (List Datum)
-kept_row v side row = option_and_then (λ r. cond (passes v.filter r) (Some r) None) (joined_row v.lookup side row)
+abbrev pub passing_row : View → Side → List Datum → Option (List Datum)
+passing_row v side row = option_and_then (λ r. cond (passes v.filter r) (Some r) None) (joined_row v.lookup side row)
 
 abbrev pub output_cell : List Datum → Output → Datum
 output_cell row o = cell_at row o.column

@@ -4,9 +4,9 @@ ghost use Rattle.std.specs.Prelude.{◌≡◌, ◌+◌, ◌-◌, ◌<◌, ◌≤
 ghost use Rattle.bitmaps.specs.Bits.{HasBits, bits_at};
 ghost use Rattle.values.specs.declared.layout.Layout.TheVariants.{Bool as Booleans};
 ghost use Rattle.body_writer.specs.Slots.{is_valid, null_count, truth_in};
-ghost use Rattle.body_writer.specs.Pieces.{IsChecked, range_cells};
+ghost use Rattle.body_writer.specs.Segments.{IsChecked, range_cells};
 
-use crate::from_columns::piece::SlotRange;
+use crate::from_columns::segment::SlotRange;
 use array_layout::buffer;
 use bitmaps::{Bitmap, Bits};
 use std::alloc::{AllocError, Global};

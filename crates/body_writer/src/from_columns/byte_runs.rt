@@ -9,7 +9,6 @@ ghost use Rattle.std.specs.Prelude.{
   ◌<◌,
   ◌≤◌,
   ◌++◌,
-  ◌^◌,
   List,
   OnOk,
   IfOk,
@@ -24,18 +23,18 @@ ghost use Rattle.byteorder.specs.Endian.{little_bytes};
 ghost use Rattle.values.specs.Rose.{node, kids_of};
 ghost use Rattle.values.specs.Reading.{IsValid};
 ghost use Rattle.values.specs.declared.layout.Layout.TheVariants.{Utf8};
-ghost use Rattle.values.specs.Layouts.{offset_bytes};
+ghost use Rattle.values.specs.Layouts.{offset_bound, offset_bytes};
 ghost use Rattle.array_layout.specs.Placing.{bytes_of};
 ghost use Rattle.array_layout.specs.Buffers.{is_null, offset_at};
 ghost use Rattle.array_layout.specs.Sound.{IsSound};
 ghost use Rattle.array_layout.specs.Cells.{cell};
 ghost use Rattle.body_writer.specs.Runs.{HasBytes, HasOffsets};
-ghost use Rattle.body_writer.specs.Pieces.{IsChecked, range_cells};
+ghost use Rattle.body_writer.specs.Segments.{IsChecked, range_cells};
 ghost use Rattle.body_writer.specs.Columns.{joined, offsets_from};
 ghost use Rattle.body_writer.specs.Slots.{length_in, total_length};
 
 use crate::bytes::push_offset;
-use crate::from_columns::piece::SlotRange;
+use crate::from_columns::segment::SlotRange;
 use array_layout::{buffer, is_null_at, offset, run_end};
 use byteorder::{ByteOrder, LittleEndian};
 use std::alloc::AllocError;
@@ -106,7 +105,7 @@ pub(crate) fn push_starts(
     requires checked { IsChecked range.now }
     requires plain { range.now.parts.own.now.dictionary ≡ None }
     requires layout { HasOffsets range.now.parts.own.now.layout range.now.offsets }
-    requires short { start + total_length (range_cells range.now) < 2 ^ 31 }
+    requires short { start + total_length (range_cells range.now) < offset_bound }
     ensures end { IfOk result (λ n. n ≡ start + total_length (range_cells range.now)) }
     ensures bytes { IfOk result (λ n. (rest : List ℕ) → out.new.items ++ offsets_from wanted n rest
         ≡ out.old.items ++ offsets_from wanted start (map length_in (range_cells range.now) ++ rest)) }

@@ -32,17 +32,17 @@ ghost use Rattle.array_layout.specs.Cells.{cell, coded_by};
 ghost use Rattle.arrays.specs.Encoded.{HasIndices};
 ghost use Rattle.body_writer.specs.Slots.{cell_of, cells_of};
 ghost use Rattle.body_writer.specs.Runs.{IsReadAs, cell_in};
-ghost use Rattle.body_writer.specs.Pieces.{
+ghost use Rattle.body_writer.specs.Segments.{
   IsChecked,
   IsEncoded,
   IsIndexed,
   OfSlots,
-  piece_cells,
-  pieces_cells,
   range_cells,
+  segment_cells,
+  segments_cells,
 };
 
-use crate::from_columns::piece::{Piece, SlotRange};
+use crate::from_columns::segment::{Segment, SlotRange};
 use array_layout::{DictionaryValues, buffer, is_null_at};
 use arrays::index_at;
 use std::alloc::{AllocError, Global};
@@ -234,28 +234,31 @@ fn push_nulls(cells: &mut Vec<Option<&Value>>, count: usize) -> Result<(), Alloc
 }
 
 /// Appends a reference for each cell of a piece.
-fn push_piece<'a>(cells: &mut Vec<Option<&'a Value>>, piece: &Piece<'a>) -> Result<(), AllocError>
-    requires { OfSlots IsEncoded piece.now }
-    ensures { OnOk result (cells_of cells.new.items ≡ cells_of cells.old.items ++ piece_cells piece.now) }
+fn push_segment<'a>(
+    cells: &mut Vec<Option<&'a Value>>,
+    segment: &Segment<'a>,
+) -> Result<(), AllocError>
+    requires { OfSlots IsEncoded segment.now }
+    ensures { OnOk result (cells_of cells.new.items ≡ cells_of cells.old.items ++ segment_cells segment.now) }
 {
-    match piece {
-        Piece::Slots(range) => push_slots(cells, range),
-        Piece::Nulls(count) => push_nulls(cells, *count),
+    match segment {
+        Segment::Slots(range) => push_slots(cells, range),
+        Segment::Nulls(count) => push_nulls(cells, *count),
     }
 }
 
 /// References to the values of these cells, `len` of them, whose arrays have dictionaries; `None` for a null.
 pub(crate) fn encoded_cells<'a>(
     alloc: Global,
-    pieces: &[Piece<'a>],
+    segments: &[Segment<'a>],
     len: usize,
 ) -> Result<Vec<Option<&'a Value>>, AllocError>
-    requires { All (OfSlots IsEncoded) pieces.now }
-    ensures { IfOk result (λ cells. cells_of cells.items ≡ pieces_cells pieces.now) }
+    requires { All (OfSlots IsEncoded) segments.now }
+    ensures { IfOk result (λ cells. cells_of cells.items ≡ segments_cells segments.now) }
 {
     let mut cells = Vec::with_capacity(alloc, len)?;
-    for piece in pieces {
-        push_piece(&mut cells, piece)?;
+    for segment in segments {
+        push_segment(&mut cells, segment)?;
     }
     Ok(cells)
 }

@@ -3,19 +3,19 @@
 ghost use Rattle.std.specs.Prelude.{◌≡◌, ◌<◌, ◌≤◌, ◌++◌, All, IfOk, OnOk, Some, map, replicate};
 ghost use Rattle.values.specs.Datum.{null};
 ghost use Rattle.body_writer.specs.Slots.{cell_of};
-ghost use Rattle.body_writer.specs.Pieces.{
+ghost use Rattle.body_writer.specs.Segments.{
   IsChecked,
   IsEncoded,
   IsIndexed,
   OfSlots,
-  piece_cells,
-  pieces_cells,
   range_cells,
+  segment_cells,
+  segments_cells,
 };
 ghost use Rattle.body_writer.specs.Texts.{as_bytes, bytes_cell, bytes_cells};
 
 use crate::from_columns::encoded::{indexed_by, value_in, value_of};
-use crate::from_columns::piece::{Piece, SlotRange};
+use crate::from_columns::segment::{Segment, SlotRange};
 use array_layout::{DictionaryValues, buffer};
 use std::alloc::{AllocError, Global};
 use values::{IntWidth, Kind, Value};
@@ -133,29 +133,32 @@ fn push_nulls(texts: &mut Vec<Option<&[u8]>>, count: usize) -> Result<(), AllocE
 }
 
 /// Appends the bytes of each cell of a piece.
-fn push_piece<'a>(texts: &mut Vec<Option<&'a [u8]>>, piece: &Piece<'a>) -> Result<(), AllocError>
-    requires { OfSlots IsEncoded piece.now }
+fn push_segment<'a>(
+    texts: &mut Vec<Option<&'a [u8]>>,
+    segment: &Segment<'a>,
+) -> Result<(), AllocError>
+    requires { OfSlots IsEncoded segment.now }
     ensures { OnOk result
-        (bytes_cells texts.new.items ≡ bytes_cells texts.old.items ++ map as_bytes (piece_cells piece.now)) }
+        (bytes_cells texts.new.items ≡ bytes_cells texts.old.items ++ map as_bytes (segment_cells segment.now)) }
 {
-    match piece {
-        Piece::Slots(range) => push_slots(texts, range),
-        Piece::Nulls(count) => push_nulls(texts, *count),
+    match segment {
+        Segment::Slots(range) => push_slots(texts, range),
+        Segment::Nulls(count) => push_nulls(texts, *count),
     }
 }
 
 /// The bytes of these cells, `len` of them, texts or bytes whose arrays have dictionaries; `None` for a null.
 pub(crate) fn encoded_texts<'a>(
     alloc: Global,
-    pieces: &[Piece<'a>],
+    segments: &[Segment<'a>],
     len: usize,
 ) -> Result<Vec<Option<&'a [u8]>>, AllocError>
-    requires { All (OfSlots IsEncoded) pieces.now }
-    ensures { IfOk result (λ texts. bytes_cells texts.items ≡ map as_bytes (pieces_cells pieces.now)) }
+    requires { All (OfSlots IsEncoded) segments.now }
+    ensures { IfOk result (λ texts. bytes_cells texts.items ≡ map as_bytes (segments_cells segments.now)) }
 {
     let mut texts = Vec::with_capacity(alloc, len)?;
-    for piece in pieces {
-        push_piece(&mut texts, piece)?;
+    for segment in segments {
+        push_segment(&mut texts, segment)?;
     }
     Ok(texts)
 }

@@ -3,11 +3,11 @@
 ghost use Rattle.std.specs.Prelude.{◌≡◌, ◌-◌, ◌<◌, ◌≤◌, ◌++◌, All, IfOk, OnOk, length, map, take, drop};
 ghost use Rattle.body_writer.specs.Slots.{part, cells_of};
 ghost use Rattle.body_writer.specs.Batch.{row_cells};
-ghost use Rattle.body_writer.specs.Pieces.{HasWidth, OfSlots, pieces_cells, range_cells};
+ghost use Rattle.body_writer.specs.Segments.{HasWidth, OfSlots, range_cells, segments_cells};
 ghost use Rattle.body_writer.specs.RowRanges.{HasColumn, range_rows, column_in};
 
 use crate::from_columns::batch::RowRange;
-use crate::from_columns::piece::{Piece, SlotRange, offset_width};
+use crate::from_columns::segment::{Segment, SlotRange, offset_width};
 use arrays::Column;
 use std::alloc::{AllocError, Global};
 use values::Value;
@@ -15,7 +15,7 @@ use values::Value;
 /// Where the cells of column `j` of these rows lie.
 pub(crate) fn slots_in<'a>(range: &RowRange<'a>, j: usize) -> SlotRange<'a>
     requires { HasColumn j range.now }
-    ensures piece { HasWidth result }
+    ensures segment { HasWidth result }
     ensures cells { range_cells result ≡ map (part j) (row_cells (range_rows range.now)) }
 {
     let parts = range.batch.columns[j].parts();
@@ -28,20 +28,20 @@ pub(crate) fn slots_in<'a>(range: &RowRange<'a>, j: usize) -> SlotRange<'a>
 }
 
 /// Where the cells of column `j` lie, range by range.
-pub(crate) fn pieces_of<'a>(
+pub(crate) fn segments_of<'a>(
     alloc: Global,
     ranges: &[RowRange<'a>],
     j: usize,
-) -> Result<Vec<Piece<'a>>, AllocError>
+) -> Result<Vec<Segment<'a>>, AllocError>
     requires { All (HasColumn j) ranges.now }
-    ensures pieces { IfOk result (λ pieces. All (OfSlots HasWidth) pieces.items) }
-    ensures cells { IfOk result (λ pieces. pieces_cells pieces.items ≡ column_in j ranges.now) }
+    ensures segments { IfOk result (λ segments. All (OfSlots HasWidth) segments.items) }
+    ensures cells { IfOk result (λ segments. segments_cells segments.items ≡ column_in j ranges.now) }
 {
-    let mut pieces = Vec::with_capacity(alloc, ranges.len())?;
+    let mut segments = Vec::with_capacity(alloc, ranges.len())?;
     for range in ranges {
-        pieces.push(Piece::Slots(slots_in(range, j)))?;
+        segments.push(Segment::Slots(slots_in(range, j)))?;
     }
-    Ok(pieces)
+    Ok(segments)
 }
 
 /// Appends copies of the cells from `from` to `to`.

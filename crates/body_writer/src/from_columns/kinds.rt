@@ -5,9 +5,9 @@ ghost use Rattle.std.specs.Prelude.{◌≡◌, true, All, IfSome};
 ghost use Rattle.values.specs.Rose.{Rose, node, kids_of};
 ghost use Rattle.values.specs.declared.layout.Layout.{Layout as Layouts};
 ghost use Rattle.array_layout.specs.declared.array.ArrayData.{ArrayData as Arrays};
-ghost use Rattle.body_writer.specs.Pieces.{AllLie, HasWidth, IsAlike, Lies, LiesAs, OfSlots, array_of, with_offsets};
+ghost use Rattle.body_writer.specs.Segments.{AllLie, HasWidth, IsAlike, Lies, LiesAs, OfSlots, array_of, with_offsets};
 
-use crate::from_columns::piece::{Piece, offset_width};
+use crate::from_columns::segment::{Segment, offset_width};
 use array_layout::{Array, ArrayData};
 use arrays::ColumnParts;
 use values::{Layout, LayoutTree, OffsetWidth};
@@ -76,12 +76,12 @@ fn all_lie(layouts: &[LayoutTree], models: &[Array], arrays: &[Array]) -> bool
 }
 
 /// Whether the array of a piece is of the model's form; nulls are of any.
-fn lies_as(piece: &Piece, layout: &LayoutTree, model: ColumnParts) -> bool
-    requires { OfSlots HasWidth piece.now }
-    ensures { result ≡ true → LiesAs layout.now (array_of model.entry) piece.now }
+fn lies_as(segment: &Segment, layout: &LayoutTree, model: ColumnParts) -> bool
+    requires { OfSlots HasWidth segment.now }
+    ensures { result ≡ true → LiesAs layout.now (array_of model.entry) segment.now }
 {
-    match piece {
-        Piece::Slots(range) => lies(
+    match segment {
+        Segment::Slots(range) => lies(
             layout.layout,
             &layout.children,
             model.own,
@@ -89,17 +89,17 @@ fn lies_as(piece: &Piece, layout: &LayoutTree, model: ColumnParts) -> bool
             range.parts.own,
             range.parts.children,
         ),
-        Piece::Nulls(_) => true,
+        Segment::Nulls(_) => true,
     }
 }
 
 /// Whether the arrays of all these pieces are.
-fn all_lie_as(pieces: &[Piece], layout: &LayoutTree, model: ColumnParts) -> bool
-    requires { All (OfSlots HasWidth) pieces.now }
-    ensures { result ≡ true → All (LiesAs layout.now (array_of model.entry)) pieces.now }
+fn all_lie_as(segments: &[Segment], layout: &LayoutTree, model: ColumnParts) -> bool
+    requires { All (OfSlots HasWidth) segments.now }
+    ensures { result ≡ true → All (LiesAs layout.now (array_of model.entry)) segments.now }
 {
-    for piece in pieces {
-        if !lies_as(piece, layout, model) {
+    for segment in segments {
+        if !lies_as(segment, layout, model) {
             return false;
         }
     }
@@ -107,22 +107,22 @@ fn all_lie_as(pieces: &[Piece], layout: &LayoutTree, model: ColumnParts) -> bool
 }
 
 /// The array of a piece, if it is of slots.
-fn array_of<'a>(piece: &Piece<'a>) -> Option<ColumnParts<'a>>
-    ensures { IfSome result (λ a. (t : Rose Layouts) (m : Rose Arrays) → LiesAs t m piece.now → Lies t m (array_of a)) }
+fn array_of<'a>(segment: &Segment<'a>) -> Option<ColumnParts<'a>>
+    ensures { IfSome result (λ a. (t : Rose Layouts) (m : Rose Arrays) → LiesAs t m segment.now → Lies t m (array_of a)) }
 {
-    match piece {
-        Piece::Slots(range) => Some(range.parts),
-        Piece::Nulls(_) => None,
+    match segment {
+        Segment::Slots(range) => Some(range.parts),
+        Segment::Nulls(_) => None,
     }
 }
 
 /// The array of the first of these pieces that is of slots.
-fn first_array<'a>(pieces: &[Piece<'a>]) -> Option<ColumnParts<'a>>
-    ensures { IfSome result (λ a. (t : Rose Layouts) (m : Rose Arrays) → All (LiesAs t m) pieces.now
+fn first_array<'a>(segments: &[Segment<'a>]) -> Option<ColumnParts<'a>>
+    ensures { IfSome result (λ a. (t : Rose Layouts) (m : Rose Arrays) → All (LiesAs t m) segments.now
         → Lies t m (array_of a)) }
 {
-    for piece in pieces {
-        let array = array_of(piece);
+    for segment in segments {
+        let array = array_of(segment);
         if array.is_some() {
             return array;
         }
@@ -131,13 +131,13 @@ fn first_array<'a>(pieces: &[Piece<'a>]) -> Option<ColumnParts<'a>>
 }
 
 /// An array of the form that those of all these pieces have, if they have one form.
-pub(crate) fn model_of<'a>(pieces: &[Piece<'a>], layout: &LayoutTree) -> Option<ColumnParts<'a>>
-    requires { All (OfSlots HasWidth) pieces.now }
+pub(crate) fn model_of<'a>(segments: &[Segment<'a>], layout: &LayoutTree) -> Option<ColumnParts<'a>>
+    requires { All (OfSlots HasWidth) segments.now }
     ensures model { IfSome result (λ m. Lies layout.now (array_of m) (array_of m)) }
-    ensures lie { IfSome result (λ m. All (LiesAs layout.now (array_of m)) pieces.now) }
+    ensures lie { IfSome result (λ m. All (LiesAs layout.now (array_of m)) segments.now) }
 {
-    let model = first_array(pieces)?;
-    if all_lie_as(pieces, layout, model) {
+    let model = first_array(segments)?;
+    if all_lie_as(segments, layout, model) {
         return Some(model);
     }
     None

@@ -3,9 +3,9 @@
 ghost use Rattle.std.specs.Prelude.{◌≡◌, ◌+◌, ◌*◌, ◌≤◌, ◌++◌, OnOk, None, drop, replicate, length, slice_range, take};
 ghost use Rattle.std.specs.List.{flat_map};
 ghost use Rattle.body_writer.specs.Runs.{slot_width, slot_bytes};
-ghost use Rattle.body_writer.specs.Pieces.{IsChecked, range_cells};
+ghost use Rattle.body_writer.specs.Segments.{IsChecked, range_cells};
 
-use crate::from_columns::piece::SlotRange;
+use crate::from_columns::segment::SlotRange;
 use array_layout::{buffer, is_null_at, run_end};
 use std::alloc::AllocError;
 use values::Layout;

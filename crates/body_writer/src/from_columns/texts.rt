@@ -1,8 +1,9 @@
 //! Writes texts or bytes of known places, each from a slice of it. `None` is a null.
 
-ghost use Rattle.std.specs.Prelude.{◌≡◌, ◌^◌, ◌<◌, ◌≤◌, ◌++◌, IfOk, OnOk, [], ◌∷◌, length};
+ghost use Rattle.std.specs.Prelude.{◌≡◌, ◌<◌, ◌≤◌, ◌++◌, IfOk, OnOk, [], ◌∷◌, length};
 ghost use Rattle.bitmaps.specs.Packed.{bytes_of};
 ghost use Rattle.values.specs.declared.layout.Layout.TheVariants.{Binary as Bytes};
+ghost use Rattle.values.specs.Layouts.{offset_bound};
 ghost use Rattle.body_writer.specs.Slots.{bytes_in, length_in, null_count, total_length};
 ghost use Rattle.body_writer.specs.Columns.{joined, offsets, own_buffers, own_node, validity as validity_of};
 ghost use Rattle.body_writer.specs.Grows.{Appends, Grows};
@@ -44,7 +45,7 @@ fn count_nulls(texts: &[Option<&[u8]>]) -> usize
 /// The validity buffer: a bit a text, or no bits where none is null.
 #[tactic(auto, using(crate::proofs::TextLemmas::bits))]
 fn validity(alloc: Global, texts: &[Option<&[u8]>], nulls: usize) -> Result<Bitmap, AllocError>
-    requires few { length texts.now < 2 ^ 31 }
+    requires few { length texts.now < offset_bound }
     requires nulls { nulls ≡ null_count (bytes_cells texts.now) }
     ensures { IfOk result (λ bits. bytes_of bits ≡ validity_of (bytes_cells texts.now)) }
 {
@@ -65,7 +66,7 @@ fn push_offsets(
     texts: &[Option<&[u8]>],
     width: OffsetWidth,
 ) -> Result<(), AllocError>
-    requires { total_length (bytes_cells texts.now) < 2 ^ 31 }
+    requires { total_length (bytes_cells texts.now) < offset_bound }
     ensures { OnOk result (out.new.items ≡ out.old.items ++ offsets width (bytes_cells texts.now)) }
 {
     let mut end = 0;
@@ -93,7 +94,7 @@ fn append_offsets(
     texts: &[Option<&[u8]>],
     body: &mut Body,
 ) -> Result<(), AllocError>
-    requires { total_length (bytes_cells texts.now) < 2 ^ 31 }
+    requires { total_length (bytes_cells texts.now) < offset_bound }
     ensures { OnOk result (Appends body.old body.new (offsets width (bytes_cells texts.now) ∷ [])) }
 {
     let from = body.bytes.len();
@@ -118,8 +119,8 @@ pub(crate) fn write_texts(
     texts: &[Option<&[u8]>],
     body: &mut Body,
 ) -> Result<(), AllocError>
-    requires few { length texts.now < 2 ^ 31 }
-    requires short { total_length (bytes_cells texts.now) < 2 ^ 31 }
+    requires few { length texts.now < offset_bound }
+    requires short { total_length (bytes_cells texts.now) < offset_bound }
     ensures { OnOk result
         (Grows body.old body.new (own_node (bytes_cells texts.now) ∷ [])
         (own_buffers (Bytes width) (bytes_cells texts.now))) }

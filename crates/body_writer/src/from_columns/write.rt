@@ -1,28 +1,28 @@
 //! Writes the body of a record batch straight from checked columns.
 
-ghost use Rattle.std.specs.Prelude.{◌≡◌, ◌^◌, ◌<◌, ◌≤◌, All, IfOk, OnOk, [], ◌∷◌, length, map};
+ghost use Rattle.std.specs.Prelude.{◌≡◌, ◌<◌, ◌≤◌, All, IfOk, OnOk, [], ◌∷◌, length, map};
 ghost use Rattle.values.specs.Limits.{max_body_size};
 ghost use Rattle.values.specs.Rose.{node, kids_of};
-ghost use Rattle.values.specs.Layouts.{IsNode, IsLayout, AreLayouts, Holds};
+ghost use Rattle.values.specs.Layouts.{AreLayouts, Holds, IsLayout, IsNode, offset_bound};
 ghost use Rattle.values.specs.Weights.{weights};
 ghost use Rattle.values.specs.declared.layout.Layout.TheVariants.{Binary as Bytes};
 ghost use Rattle.body_writer.specs.Slots.{total_length};
 ghost use Rattle.body_writer.specs.Columns.{nodes, nodes_below, buffers, buffers_below, own_buffers, own_node};
 ghost use Rattle.body_writer.specs.Grows.{Grows};
 ghost use Rattle.body_writer.specs.Batch.{IsBatch, body_bytes, body_nodes, body_ranges};
-ghost use Rattle.body_writer.specs.Pieces.{AllLie, IsEncoded, Lies, LiesAs, LiesBelow, OfSlots, pieces_cells};
+ghost use Rattle.body_writer.specs.Segments.{AllLie, IsEncoded, Lies, LiesAs, LiesBelow, OfSlots, segments_cells};
 ghost use Rattle.body_writer.specs.RowRanges.{HasColumn, IsRange, column_in, ranges_rows};
 ghost use Rattle.body_writer.specs.Texts.{as_bytes};
 
 use crate::body::Body;
 use crate::from_columns::batch::RowRange;
-use crate::from_columns::children::{child_at, child_pieces};
+use crate::from_columns::children::{child_at, child_segments};
 use crate::from_columns::encoded::encoded_cells;
 use crate::from_columns::encoded_texts::encoded_texts;
-use crate::from_columns::gather::{pieces_of, refs_of, values_of};
+use crate::from_columns::gather::{refs_of, segments_of, values_of};
 use crate::from_columns::kinds::model_of;
 use crate::from_columns::own::{count_cells, write_own};
-use crate::from_columns::piece::Piece;
+use crate::from_columns::segment::Segment;
 use crate::from_columns::texts::write_texts;
 use crate::from_values::column::write_column_from_values;
 use array_layout::{Array, ArrayData};
@@ -40,7 +40,7 @@ fn write_copies(
     requires ranges { All (HasColumn j) ranges.now }
     requires layouts { IsLayout layout.now }
     requires held { All (Holds layout.now) (column_in j ranges.now) }
-    requires light { weights layout.now (column_in j ranges.now) < 2 ^ 31 }
+    requires light { weights layout.now (column_in j ranges.now) < offset_bound }
     ensures { OnOk result
         (Grows body.old body.new (nodes layout.now (column_in j ranges.now))
         (buffers layout.now (column_in j ranges.now))) }
@@ -54,16 +54,16 @@ fn write_copies(
 fn write_encoded_texts(
     alloc: Global,
     width: OffsetWidth,
-    pieces: &[Piece],
+    segments: &[Segment],
     body: &mut Body,
 ) -> Result<(), AllocError>
-    requires encoded { All (OfSlots IsEncoded) pieces.now }
-    requires few { length (pieces_cells pieces.now) < 2 ^ 31 }
-    requires short { total_length (map as_bytes (pieces_cells pieces.now)) < 2 ^ 31 }
-    ensures { OnOk result (Grows body.old body.new (own_node (map as_bytes (pieces_cells pieces.now)) ∷ [])
-        (own_buffers (Bytes width) (map as_bytes (pieces_cells pieces.now)))) }
+    requires encoded { All (OfSlots IsEncoded) segments.now }
+    requires few { length (segments_cells segments.now) < offset_bound }
+    requires short { total_length (map as_bytes (segments_cells segments.now)) < offset_bound }
+    ensures { OnOk result (Grows body.old body.new (own_node (map as_bytes (segments_cells segments.now)) ∷ [])
+        (own_buffers (Bytes width) (map as_bytes (segments_cells segments.now)))) }
 {
-    let texts = encoded_texts(alloc, pieces, count_cells(pieces))?;
+    let texts = encoded_texts(alloc, segments, count_cells(segments))?;
     write_texts(alloc, width, &texts, body)
 }
 
@@ -71,17 +71,17 @@ fn write_encoded_texts(
 fn write_encoded_values(
     alloc: Global,
     layout: &LayoutTree,
-    pieces: &[Piece],
+    segments: &[Segment],
     body: &mut Body,
 ) -> Result<(), AllocError>
     requires layouts { IsLayout layout.now }
-    requires encoded { All (OfSlots IsEncoded) pieces.now }
-    requires held { All (Holds layout.now) (pieces_cells pieces.now) }
-    requires light { weights layout.now (pieces_cells pieces.now) < 2 ^ 31 }
-    ensures { OnOk result (Grows body.old body.new (nodes layout.now (pieces_cells pieces.now))
-        (buffers layout.now (pieces_cells pieces.now))) }
+    requires encoded { All (OfSlots IsEncoded) segments.now }
+    requires held { All (Holds layout.now) (segments_cells segments.now) }
+    requires light { weights layout.now (segments_cells segments.now) < offset_bound }
+    ensures { OnOk result (Grows body.old body.new (nodes layout.now (segments_cells segments.now))
+        (buffers layout.now (segments_cells segments.now))) }
 {
-    let cells = encoded_cells(alloc, pieces, count_cells(pieces))?;
+    let cells = encoded_cells(alloc, segments, count_cells(segments))?;
     write_column_from_values(alloc, layout, &cells, body)
 }
 
@@ -89,25 +89,25 @@ fn write_encoded_values(
 fn write_encoded(
     alloc: Global,
     layout: &LayoutTree,
-    pieces: &[Piece],
+    segments: &[Segment],
     body: &mut Body,
 ) -> Result<(), AllocError>
     requires layouts { IsLayout layout.now }
-    requires encoded { All (OfSlots IsEncoded) pieces.now }
-    requires held { All (Holds layout.now) (pieces_cells pieces.now) }
-    requires light { weights layout.now (pieces_cells pieces.now) < 2 ^ 31 }
-    ensures { OnOk result (Grows body.old body.new (nodes layout.now (pieces_cells pieces.now))
-        (buffers layout.now (pieces_cells pieces.now))) }
+    requires encoded { All (OfSlots IsEncoded) segments.now }
+    requires held { All (Holds layout.now) (segments_cells segments.now) }
+    requires light { weights layout.now (segments_cells segments.now) < offset_bound }
+    ensures { OnOk result (Grows body.old body.new (nodes layout.now (segments_cells segments.now))
+        (buffers layout.now (segments_cells segments.now))) }
 {
     match layout.layout {
-        Layout::Utf8 { offsets } => write_encoded_texts(alloc, offsets, pieces, body),
-        Layout::Binary { offsets } => write_encoded_texts(alloc, offsets, pieces, body),
+        Layout::Utf8 { offsets } => write_encoded_texts(alloc, offsets, segments, body),
+        Layout::Binary { offsets } => write_encoded_texts(alloc, offsets, segments, body),
         Layout::Bool
         | Layout::Int { .. }
         | Layout::Decimal { .. }
         | Layout::FixedSizeBinary { .. }
         | Layout::List { .. }
-        | Layout::Struct => write_encoded_values(alloc, layout, pieces, body),
+        | Layout::Struct => write_encoded_values(alloc, layout, segments, body),
     }
 }
 
@@ -119,24 +119,24 @@ fn write_children(
     layout: Layout,
     children: &[LayoutTree],
     models: &[Array],
-    pieces: &[Piece],
+    segments: &[Segment],
     body: &mut Body,
 ) -> Result<(), AllocError>
     requires own { IsNode layout (kids_of children.now) }
     requires layouts { AreLayouts (kids_of children.now) }
     requires models { AllLie (kids_of children.now) (kids_of models.now) (kids_of models.now) }
-    requires lie { All (OfSlots (LiesBelow layout (kids_of children.now) (kids_of models.now))) pieces.now }
-    requires held { All (Holds (node layout (kids_of children.now))) (pieces_cells pieces.now) }
-    requires light { weights (node layout (kids_of children.now)) (pieces_cells pieces.now) < 2 ^ 31 }
+    requires lie { All (OfSlots (LiesBelow layout (kids_of children.now) (kids_of models.now))) segments.now }
+    requires held { All (Holds (node layout (kids_of children.now))) (segments_cells segments.now) }
+    requires light { weights (node layout (kids_of children.now)) (segments_cells segments.now) < offset_bound }
     ensures { OnOk result
-        (Grows body.old body.new (nodes_below layout 0 (kids_of children.now) (pieces_cells pieces.now))
-        (buffers_below layout 0 (kids_of children.now) (pieces_cells pieces.now))) }
+        (Grows body.old body.new (nodes_below layout 0 (kids_of children.now) (segments_cells segments.now))
+        (buffers_below layout 0 (kids_of children.now) (segments_cells segments.now))) }
 {
     for j in 0..children.len() {
         let child = &children[j];
         let model = child_at(models, j);
-        let below = child_pieces(alloc, layout, pieces, j)?;
-        write_pieces(alloc, child, &model.own, &model.children, &below, body)?;
+        let below = child_segments(alloc, layout, segments, j)?;
+        write_segments(alloc, child, &model.own, &model.children, &below, body)?;
     }
     Ok(())
 }
@@ -144,28 +144,35 @@ fn write_children(
 /// Appends the column whose cells lie in these pieces, with its children. Their arrays are of the form of `model`, with
 /// `models` below it.
 #[cycle(column)]
-pub(crate) fn write_pieces(
+pub(crate) fn write_segments(
     alloc: Global,
     layout: &LayoutTree,
     model: &ArrayData,
     models: &[Array],
-    pieces: &[Piece],
+    segments: &[Segment],
     body: &mut Body,
 ) -> Result<(), AllocError>
     requires layouts { IsLayout layout.now }
     requires model { Lies layout.now (node model.now (kids_of models.now)) (node model.now (kids_of models.now)) }
-    requires lie { All (LiesAs layout.now (node model.now (kids_of models.now))) pieces.now }
-    requires held { All (Holds layout.now) (pieces_cells pieces.now) }
-    requires light { weights layout.now (pieces_cells pieces.now) < 2 ^ 31 }
+    requires lie { All (LiesAs layout.now (node model.now (kids_of models.now))) segments.now }
+    requires held { All (Holds layout.now) (segments_cells segments.now) }
+    requires light { weights layout.now (segments_cells segments.now) < offset_bound }
     ensures { OnOk result
-        (Grows body.old body.new (nodes layout.now (pieces_cells pieces.now))
-        (buffers layout.now (pieces_cells pieces.now))) }
+        (Grows body.old body.new (nodes layout.now (segments_cells segments.now))
+        (buffers layout.now (segments_cells segments.now))) }
 {
     if model.dictionary.is_some() {
-        return write_encoded(alloc, layout, pieces, body);
+        return write_encoded(alloc, layout, segments, body);
     }
-    write_own(alloc, layout.layout, pieces, body)?;
-    write_children(alloc, layout.layout, &layout.children, models, pieces, body)
+    write_own(alloc, layout.layout, segments, body)?;
+    write_children(
+        alloc,
+        layout.layout,
+        &layout.children,
+        models,
+        segments,
+        body,
+    )
 }
 
 /// Appends column `j` of these rows.
@@ -179,14 +186,14 @@ pub(crate) fn write_column(
     requires ranges { All (HasColumn j) ranges.now }
     requires layouts { IsLayout layout.now }
     requires held { All (Holds layout.now) (column_in j ranges.now) }
-    requires light { weights layout.now (column_in j ranges.now) < 2 ^ 31 }
+    requires light { weights layout.now (column_in j ranges.now) < offset_bound }
     ensures { OnOk result
         (Grows body.old body.new (nodes layout.now (column_in j ranges.now))
         (buffers layout.now (column_in j ranges.now))) }
 {
-    let pieces = pieces_of(alloc, ranges, j)?;
-    match model_of(&pieces, layout) {
-        Some(model) => write_pieces(alloc, layout, model.own, model.children, &pieces, body),
+    let segments = segments_of(alloc, ranges, j)?;
+    match model_of(&segments, layout) {
+        Some(model) => write_segments(alloc, layout, model.own, model.children, &segments, body),
         None => write_copies(alloc, layout, ranges, j, body),
     }
 }

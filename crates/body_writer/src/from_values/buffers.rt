@@ -1,7 +1,8 @@
 //! The buffers of one array, each built whole, and the cells of its children.
 
-ghost use Rattle.std.specs.Prelude.{◌≡◌, ◌+◌, ◌*◌, ◌^◌, ◌<◌, ◌≤◌, ◌++◌, IfOk, OnOk, length, map};
+ghost use Rattle.std.specs.Prelude.{◌≡◌, ◌+◌, ◌*◌, ◌<◌, ◌≤◌, ◌++◌, IfOk, OnOk, length, map};
 ghost use Rattle.std.specs.Int.{w128};
+ghost use Rattle.values.specs.Layouts.{offset_bound};
 ghost use Rattle.byteorder.specs.Endian.{little_bytes, low_bytes};
 ghost use Rattle.body_writer.specs.Slots.{
   part as part_of,
@@ -49,7 +50,7 @@ pub fn count_nulls(cells: &[Option<&Value>]) -> usize
 /// The validity buffer: a bit a cell, or no bits where no cell is null.
 #[tactic(auto, using(crate::proofs::Cells::bits))]
 pub fn validity(alloc: Global, cells: &[Option<&Value>]) -> Result<Bitmap, AllocError>
-    requires { length cells.now < 2 ^ 31 }
+    requires { length cells.now < offset_bound }
     ensures { IfOk result (λ bits. bytes_of bits ≡ validity_of (cells_of cells.now)) }
 {
     let mut bits = Bitmap::new(alloc);
@@ -65,7 +66,7 @@ pub fn validity(alloc: Global, cells: &[Option<&Value>]) -> Result<Bitmap, Alloc
 /// The values of a column of bools: a bit a cell, 0 for a null.
 #[tactic(auto, using(crate::proofs::Cells::steps), unfolding(crate::specs::Columns::truths))]
 pub fn truths(alloc: Global, cells: &[Option<&Value>]) -> Result<Bitmap, AllocError>
-    requires { length cells.now < 2 ^ 31 }
+    requires { length cells.now < offset_bound }
     ensures { IfOk result (λ bits. bytes_of bits ≡ truths_of (cells_of cells.now)) }
 {
     let mut bits = Bitmap::new(alloc);
@@ -148,7 +149,7 @@ pub fn push_offsets(
     cells: &[Option<&Value>],
     width: OffsetWidth,
 ) -> Result<(), AllocError>
-    requires { total_length (cells_of cells.now) < 2 ^ 31 }
+    requires { total_length (cells_of cells.now) < offset_bound }
     ensures { OnOk result (buffer.new.items ≡ buffer.old.items ++ offsets_of width (cells_of cells.now)) }
 {
     buffer.reserve(width.bytes().saturating_mul(cells.len()))?;

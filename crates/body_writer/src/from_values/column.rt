@@ -1,8 +1,8 @@
 //! Writes one column of any layout, with its children.
 
-ghost use Rattle.std.specs.Prelude.{◌^◌, ◌<◌, ◌≤◌, OnOk, All, length, [], ◌∷◌};
+ghost use Rattle.std.specs.Prelude.{◌<◌, ◌≤◌, OnOk, All, length, [], ◌∷◌};
 ghost use Rattle.values.specs.Rose.{node, kids_of};
-ghost use Rattle.values.specs.Layouts.{IsNode, IsLayout, AreLayouts, Holds};
+ghost use Rattle.values.specs.Layouts.{AreLayouts, Holds, IsLayout, IsNode, offset_bound};
 ghost use Rattle.body_writer.specs.Slots.{cells_of, total_length};
 ghost use Rattle.body_writer.specs.Columns.{
   value_buffers,
@@ -52,7 +52,7 @@ fn append_offsets(
     offsets: OffsetWidth,
     body: &mut Body,
 ) -> Result<(), AllocError>
-    requires { total_length (cells_of cells.now) < 2 ^ 31 }
+    requires { total_length (cells_of cells.now) < offset_bound }
     ensures { OnOk result (Appends body.old body.new (offsets_of offsets (cells_of cells.now) ∷ [])) }
 {
     let from = body.bytes.len();
@@ -75,7 +75,7 @@ fn append_runs(
     cells: &[Option<&Value>],
     body: &mut Body,
 ) -> Result<(), AllocError>
-    requires { total_length (cells_of cells.now) < 2 ^ 31 }
+    requires { total_length (cells_of cells.now) < offset_bound }
     ensures { OnOk result
         (Appends body.old body.new (offsets_of offsets (cells_of cells.now) ∷ joined_of (cells_of cells.now) ∷ [])) }
 {
@@ -90,8 +90,8 @@ fn append_values(
     cells: &[Option<&Value>],
     body: &mut Body,
 ) -> Result<(), AllocError>
-    requires few { length cells.now < 2 ^ 31 }
-    requires short { total_length (cells_of cells.now) < 2 ^ 31 }
+    requires few { length cells.now < offset_bound }
+    requires short { total_length (cells_of cells.now) < offset_bound }
     ensures { OnOk result (Appends body.old body.new (value_buffers layout (cells_of cells.now))) }
 {
     match layout {
@@ -113,8 +113,8 @@ fn write_own(
     cells: &[Option<&Value>],
     body: &mut Body,
 ) -> Result<(), AllocError>
-    requires few { length cells.now < 2 ^ 31 }
-    requires short { total_length (cells_of cells.now) < 2 ^ 31 }
+    requires few { length cells.now < offset_bound }
+    requires short { total_length (cells_of cells.now) < offset_bound }
     ensures { OnOk result
         (Grows body.old body.new (own_node (cells_of cells.now) ∷ []) (own_buffers layout (cells_of cells.now))) }
 {
@@ -138,7 +138,7 @@ fn write_children(
     requires own { IsNode layout (kids_of children.now) }
     requires layouts { AreLayouts (kids_of children.now) }
     requires held { All (Holds (node layout (kids_of children.now))) (cells_of cells.now) }
-    requires light { weights (node layout (kids_of children.now)) (cells_of cells.now) < 2 ^ 31 }
+    requires light { weights (node layout (kids_of children.now)) (cells_of cells.now) < offset_bound }
     ensures { OnOk result (Grows body.old body.new (nodes_below layout 0 (kids_of children.now) (cells_of cells.now))
         (buffers_below layout 0 (kids_of children.now) (cells_of cells.now))) }
 {
@@ -163,7 +163,7 @@ pub fn write_column_from_values(
 ) -> Result<(), AllocError>
     requires layouts { IsLayout layout.now }
     requires held { All (Holds layout.now) (cells_of cells.now) }
-    requires light { weights layout.now (cells_of cells.now) < 2 ^ 31 }
+    requires light { weights layout.now (cells_of cells.now) < offset_bound }
     ensures { OnOk result
         (Grows body.old body.new (nodes layout.now (cells_of cells.now)) (buffers layout.now (cells_of cells.now))) }
 {

@@ -12,7 +12,7 @@ use session::Session;
 use std::alloc::Global;
 use std::fmt;
 use values::Cause;
-use view_config::{Place, find_fault, read_config};
+use view_config::{FaultLocation, find_fault, read_config};
 use view_lang::Config;
 
 /// Reads a configuration from the bytes of a file. The error is the cause of a fault of the text, `NotToml` also for
@@ -32,7 +32,7 @@ fn parse_config(alloc: Global, bytes: &[u8]) -> Result<Config, Cause>
 #[derive(Debug, Drop)]
 struct Explained<'a> {
     path: &'a str,
-    place: Option<Place>,
+    place: Option<FaultLocation>,
     cause: Cause,
 }
 

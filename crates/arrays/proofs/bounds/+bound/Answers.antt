@@ -13,8 +13,8 @@ list_bound-returns-clause-value t c =
 
 pub own_bound-returns-in-Some-clause-value : goal.own_bound-returns-in-Some-clause-value
 own_bound-returns-in-Some-clause-value t c =
-    encoded_bounded c.max.result c.slot_of-null.result c.encoded_bound.result c.args.body.now c.args.own.now
-    (kids_of c.args.children.now) c.in-Some.dictionary c.in-Some.is c.slot_of-null.ensures.value
+    encoded_bounded c.max.result c.null_weight_of-null.result c.encoded_bound.result c.args.body.now c.args.own.now
+    (kids_of c.args.children.now) c.in-Some.dictionary c.in-Some.is c.null_weight_of-null.ensures.value
     c.encoded_bound.ensures.value c.max.ensures
 
 pub row_bound-loop-child-preserved : goal.row_bound-loop-child-preserved
@@ -28,5 +28,5 @@ row_bound-loop-child-preserved t c =
 
 pub value_bound-returns-in-Bool-clause-value : goal.value_bound-returns-in-Bool-clause-value
 value_bound-returns-in-Bool-clause-value t c =
-    fixed_bounded c.slot_of.result c.args.body.now c.args.own.now (kids_of c.args.children.now) c.in-Bool.is
-    c.slot_of.ensures.value
+    fixed_bounded c.null_weight_of.result c.args.body.now c.args.own.now (kids_of c.args.children.now) c.in-Bool.is
+    c.null_weight_of.ensures.value

@@ -8,7 +8,7 @@ pub returns-then-is_fixed-clause-value : goal.returns-then-is_fixed-clause-value
 returns-then-is_fixed-clause-value c =
     fixed_coded c.args.own.now.layout c.args.dictionary.now.layout c.args.dictionary.now.values
     (bytes_of c.args.body.now c.args.own.now.values) c.args.own.now.len c.cap.result
-    (sym c.is_fixed.ensures ∙ c.if-is_fixed.true) (c.cap.ensures.value ∙ ap capped c.own_slot.ensures.value)
+    (sym c.is_fixed.ensures ∙ c.if-is_fixed.true) (c.cap.ensures.value ∙ ap capped c.own_null_weight.ensures.value)
 
 pub returns-then-len-own-clause-value : goal.returns-then-len-own-clause-value
 returns-then-len-own-clause-value c =

@@ -5,7 +5,7 @@ use Rattle.arrays.proofs.bounds.heaviest_slot.Goals as goal
 
 pub loop-i-init : goal.loop-i-init
 loop-i-init c =
-    (bounds_none _ _ _ (c.cap-most.ensures.value ∙ ap capped c.own_slot.ensures.value), c.cap-most.ensures.bound)
+    (bounds_none _ _ _ (c.cap-most.ensures.value ∙ ap capped c.own_null_weight.ensures.value), c.cap-most.ensures.bound)
 
 pub loop-i-preserved : goal.loop-i-preserved
 loop-i-preserved c = (

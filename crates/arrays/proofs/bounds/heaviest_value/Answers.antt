@@ -5,7 +5,7 @@ use Rattle.arrays.proofs.bounds.heaviest_value.Goals as goal
 
 pub loop-k-init : goal.loop-k-init
 loop-k-init c =
-    (bounds_none _ _ _ (c.cap-most.ensures.value ∙ ap capped c.own_slot.ensures.value), c.cap-most.ensures.bound)
+    (bounds_none _ _ _ (c.cap-most.ensures.value ∙ ap capped c.own_null_weight.ensures.value), c.cap-most.ensures.bound)
 
 pub unwrap-value-requires : goal.unwrap-value-requires
 unwrap-value-requires c =

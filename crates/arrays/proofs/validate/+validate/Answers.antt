@@ -1,6 +1,6 @@
 use Rattle.std.proofs.Common.{rules, ℕ, arith, sym, ◌≤◌, ◌-◌}
 use Rattle.values.specs.Datum.{Datum}
-use Rattle.values.specs.Reading.{Reading, Stands, each}
+use Rattle.values.specs.Reading.{FailsWith, Reading, each}
 use Rattle.values.specs.Rose.{kids_of}
 use Rattle.array_layout.specs.Cells.{cell, len_of, list_of, items_at}
 use Rattle.arrays.specs.Ranges.{where_valid}
@@ -44,7 +44,7 @@ validate_lists-returns-in_err-validate_slots t c =
     let lists : ℕ → Reading Datum = λ i. list_of (items_at item c.args.width c.args.offsets.now i) in
     let whole = each (where_valid c.args.bits.now lists) c.args.from (c.args.to - c.args.from) in
     let d = c.in_err-validate_slots.field-0.0 in
-    let stands : Stands whole d =
+    let stands : FailsWith whole d =
     run_fault c.args.bits.now lists c.loop-at.at c.run_end-end.result c.args.to whole d c.loop-at.invariant.2
     (sym c.if-not-is_null_at.ensures) run.same run.past run.within
     (lists_fault item c.args.width c.args.offsets.now c.args.to (len_of c.args.items.now) c.loop-at.at

@@ -2,13 +2,13 @@ use Rattle.std.proofs.Common.{◌∙◌, ap, length, subst, sym}
 use mir.Syntax.{w128}
 use Rattle.std.proofs.lemmas.Int.{to_z-of_z}
 use Rattle.values.specs.Rose.{kids_of}
-use Rattle.column_truths.proofs.LaneRuns.{length-nulls_by, length-taken_in}
+use Rattle.column_truths.proofs.LaneRuns.{length-nulls_by, length-passing_span}
 use Rattle.column_truths.proofs.NumberTruths.{IsSpanOf, numbers_compared}
 use Rattle.column_truths.proofs.by_lanes.compare_numbers.Goals as goal
 
 pub new-requires : goal.new-requires
 new-requires c =
-    ap length (c.bits.ensures ∙ c.in_ok-known.ensures) ∙ length-taken_in c.args.width c.span_of-span.result _ _
+    ap length (c.bits.ensures ∙ c.in_ok-known.ensures) ∙ length-passing_span c.args.width c.span_of-span.result _ _
     ∙ sym (ap length c.in_ok-unknown.ensures ∙ length-nulls_by _ _)
 
 pub returns : goal.returns

@@ -4,4 +4,4 @@ use Rattle.group_order.proofs.ranked.exchange.Goals as goal
 
 pub returns-then-eq : goal.returns-then-eq
 returns-then-eq c =
-    same-keys c.args.tuple c.args.before c.args.after c.args.places.now.keys (sym c.eq.ensures ∙ c.if-eq.true)
+    same-keys c.args.tuple c.args.before c.args.after c.args.entries.now.keys (sym c.eq.ensures ∙ c.if-eq.true)

@@ -1,5 +1,5 @@
 use Rattle.std.proofs.Common.{arith}
-use Rattle.group_state.specs.KeptColumns.{counted}
+use Rattle.group_state.specs.AccumulatedColumns.{counted}
 use Rattle.group_state.specs.Rows.{cells}
 use Rattle.group_state.proofs.Halfway.{cells-few, halfway-all, halfway-more, halfway-none}
 use Rattle.group_state.proofs.group.add_each.Goals as goal

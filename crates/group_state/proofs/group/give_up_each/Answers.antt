@@ -1,9 +1,9 @@
 use Rattle.std.proofs.Common.{arith, ◌<◌, ◌++◌, sym, subst, length}
 use Rattle.std.specs.Prelude.{slice_index_or}
 use Rattle.group_state.specs.Cells.{KeepsCells}
-use Rattle.group_state.specs.KeptColumns.{counted}
+use Rattle.group_state.specs.AccumulatedColumns.{counted}
 use Rattle.group_state.specs.Rows.{cells}
-use Rattle.group_state.specs.declared.kept_columns.KeptColumn.{KeptColumn}
+use Rattle.group_state.specs.declared.accumulated_columns.AccumulatedColumn.{AccumulatedColumn}
 use Rattle.group_state.specs.declared.tally.Tally.{Tally}
 use Rattle.group_state.proofs.Halfway.{halfway-all, halfway-more, halfway-none}
 use Rattle.group_state.proofs.Moves.{cells-append}
@@ -18,7 +18,7 @@ loop-i-preserved c = λ columns rest moved k l.
     let b = c.loop-i-test.true in
     let n = l.count in
     let within : c.loop-i.i < length columns = omega (arith, b, n) in
-    let at : KeptColumn = slice_index_or columns c.loop-i.i (counted 0) in
+    let at : AccumulatedColumn = slice_index_or columns c.loop-i.i (counted 0) in
     halfway-more columns c.loop-i.tallies c.loop-i.i rest (moved ++ rest) c.give_up.new.self h within (counted 0)
     (c.give_up.ensures at.form (cells at.column rest) (cells at.column moved)
     (subst (KeepsCells at.form (slice_index_or c.loop-i.tallies c.loop-i.i c.index-tallies-i.result))

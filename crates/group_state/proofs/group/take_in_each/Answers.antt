@@ -1,9 +1,9 @@
 use Rattle.std.proofs.Common.{arith, ◌<◌, ◌++◌, sym, subst, length}
 use Rattle.std.specs.Prelude.{slice_index_or}
 use Rattle.group_state.specs.Cells.{KeepsCells}
-use Rattle.group_state.specs.KeptColumns.{counted}
+use Rattle.group_state.specs.AccumulatedColumns.{counted}
 use Rattle.group_state.specs.Rows.{cells}
-use Rattle.group_state.specs.declared.kept_columns.KeptColumn.{KeptColumn}
+use Rattle.group_state.specs.declared.accumulated_columns.AccumulatedColumn.{AccumulatedColumn}
 use Rattle.group_state.specs.declared.tally.Tally.{Tally}
 use Rattle.group_state.proofs.Halfway.{halfway-all, halfway-more, halfway-none}
 use Rattle.group_state.proofs.Moves.{cells-append, cells-few}
@@ -15,7 +15,7 @@ take_in-requires c =
     let rest = c.requires.1 in
     let moved = c.requires.2 in
     let k = c.requires.3 in
-    let at : KeptColumn = slice_index_or columns c.loop-i.i (counted 0) in
+    let at : AccumulatedColumn = slice_index_or columns c.loop-i.i (counted 0) in
     let h = c.loop-i.invariant columns rest moved k.0 k.1.0 in
     let b = c.loop-i-test.true in
     let n = k.1.0.count in
@@ -41,7 +41,7 @@ loop-i-preserved c = λ columns rest moved k l.
     let b = c.loop-i-test.true in
     let n = l.count in
     let within : c.loop-i.i < length columns = omega (arith, b, n) in
-    let at : KeptColumn = slice_index_or columns c.loop-i.i (counted 0) in
+    let at : AccumulatedColumn = slice_index_or columns c.loop-i.i (counted 0) in
     halfway-more columns c.loop-i.tallies c.loop-i.i (moved ++ rest) rest c.take_in.new.self h within (counted 0)
     (subst (KeepsCells at.form c.take_in.new.self) (sym (cells-append at.column moved rest))
     (c.in_ok-take_in.ensures at.form (cells at.column rest) (cells at.column moved)

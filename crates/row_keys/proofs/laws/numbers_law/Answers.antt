@@ -9,9 +9,9 @@ use Rattle.row_keys.proofs.NumberLaw.{
   put_back_come,
   retracted_go,
   retracted_were_live,
+  reverted_go,
   rows_are_at_numbers,
   rows_are_live,
-  taken_back_go,
 }
 use Rattle.row_keys.proofs.PutLaw.{few_put_back, few_retracted, hidden_put_goes, shown_put_comes}
 use Rattle.row_keys.proofs.laws.numbers_law.Goals as goal
@@ -27,7 +27,7 @@ returns c = record {
   come_back = retracted_come_back;
   put_back = put_back_come;
   appended = new_come;
-  taken_back = taken_back_go;
+  reverted = reverted_go;
   all = all_come;
   add = changes_add;
   few_retracted = few_retracted;

@@ -1,7 +1,7 @@
 use Rattle.std.proofs.Common.{rules, of_calls}
 use Rattle.std.specs.Prelude.{nat_lt}
 use Rattle.std.proofs.lemmas.Fn.{always_returns_same}
-use Rattle.row_keys.proofs.KeptEntries.{kept_parted}
+use Rattle.row_keys.proofs.RetainedEntries.{kept_parted}
 use Rattle.row_keys.proofs.numbers.count_below.Goals as goal
 
 pub returns : goal.returns

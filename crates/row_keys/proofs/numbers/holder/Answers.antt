@@ -1,6 +1,6 @@
 use Rattle.std.proofs.Common.{◌≡◌, ◌<◌, Some, ap, length, slice_get, sym, true≢false, ◌∙◌}
 use Rattle.std.proofs.lemmas.Option.{slice_get-get_or}
-use Rattle.row_keys.proofs.KeptEntries.{held_here, held_not}
+use Rattle.row_keys.proofs.RetainedEntries.{held_here, held_not}
 use Rattle.row_keys.proofs.numbers.holder.Goals as goal
 use Rattle.row_keys.proofs.numbers.holder.Goals.{
   else-entry-place-via-then-entry-place+else-entry,

@@ -1,5 +1,5 @@
 use Rattle.std.proofs.Common.{refl}
-use Rattle.row_keys.proofs.KeptEntries.{not_there}
+use Rattle.row_keys.proofs.RetainedEntries.{not_there}
 use Rattle.row_keys.proofs.numbers.place_of.Goals as goal
 
 pub returns-else-is_at-2 : goal.returns-else-is_at-2

@@ -10,9 +10,9 @@ use Rattle.row_keys.proofs.weighing.weigh_cell.Goals as goal
 
 pub returns-in-Some : goal.returns-in-Some
 returns-in-Some c =
-    flat_bounds c.args.layout.now (get_or c.args.column.now.cells c.args.index null) c.in-Some.bytes c.slot.result
+    flat_bounds c.args.layout.now (get_or c.args.column.now.cells c.args.index null) c.in-Some.bytes c.null_weight.result
     c.saturating_add.result
-    (sym c.in-Some.is ∙ c.bytes_beyond.ensures ∙ ap bytes_beyond c.view.ensures) c.slot.ensures c.saturating_add.ensures
+    (sym c.in-Some.is ∙ c.bytes_beyond.ensures ∙ ap bytes_beyond c.view.ensures) c.null_weight.ensures c.saturating_add.ensures
 
 pub returns-in_ok-value-in-None : goal.returns-in_ok-value-in-None
 returns-in_ok-value-in-None c =

@@ -1,7 +1,7 @@
 use Rattle.std.proofs.Common.{ℕ, ◌∙◌, ◌<◌, All, List, ap, subst, sym}
 use denote.Ref.{Bor}
 use Rattle.body_writer.specs.declared.from_columns.batch.Batch.{Batch}
-use Rattle.body_writer.specs.Places.{IsRowAt, placed_rows}
+use Rattle.body_writer.specs.Locations.{IsRowAt, located_rows}
 use Rattle.body_writer.specs.Picked.{picked_rows}
 use Rattle.stream_writer.specs.Sinks.{Writes}
 use Rattle.stream_writer.specs.Stream.{canon}
@@ -10,17 +10,17 @@ use Rattle.upkeep.specs.Stores.{rows_at, rows_in, tables_in}
 use Rattle.upkeep.specs.ViewStates.{width_in}
 use Rattle.session.proofs.view.write_scattered.Goals as goal
 
-pub write_places-requires-clause-table : goal.write_places-requires-clause-table
-write_places-requires-clause-table g c =
+pub write_locations-requires-clause-table : goal.write_locations-requires-clause-table
+write_locations-requires-clause-table g c =
     let fs = c.args.schema.now.fields.items in
     let slots = rows_at (rows_in c.args.tables.now.stores) 0 in
     let found = c.in_ok-found.found in
-    let lie = ap (λ (bs : List (Bor Batch)). placed_rows bs c.deref-2.result.now) c.deref.ensures.value
-    ∙ ap (placed_rows found.batches.items) c.deref-2.ensures.value ∙ c.in_ok-found.ensures.rows in
+    let lie = ap (λ (bs : List (Bor Batch)). located_rows bs c.deref-2.result.now) c.deref.ensures.value
+    ∙ ap (located_rows found.batches.items) c.deref-2.ensures.value ∙ c.in_ok-found.ensures.rows in
     subst (IsTable fs) (sym (ap (picked_rows c.args.columns.now) (c.alone-rows.ensures.rows ∙ lie))) c.requires.table
 
-pub write_places-requires-clause-have : goal.write_places-requires-clause-have
-write_places-requires-clause-have g c =
+pub write_locations-requires-clause-have : goal.write_locations-requires-clause-have
+write_locations-requires-clause-have g c =
     let width : ℕ = width_in (tables_in c.args.tables.now.stores) in
     let found = c.in_ok-found.found in
     c.alone-rows.ensures.have c.args.columns.now
@@ -35,7 +35,7 @@ pub returns : goal.returns
 returns g c =
     let fs = c.args.schema.now.fields.items in
     let found = c.in_ok-found.found in
-    let lie = ap (λ (bs : List (Bor Batch)). placed_rows bs c.deref-2.result.now) c.deref.ensures.value
-    ∙ ap (placed_rows found.batches.items) c.deref-2.ensures.value ∙ c.in_ok-found.ensures.rows in
-    subst (Writes (g.S.Sink.sunk c.args.sink.now) (g.S.Sink.sunk c.write_places.new.sink) c.write_places.result)
-    (ap (λ rows. canon fs (picked_rows c.args.columns.now rows)) (c.alone-rows.ensures.rows ∙ lie)) c.write_places.ensures
+    let lie = ap (λ (bs : List (Bor Batch)). located_rows bs c.deref-2.result.now) c.deref.ensures.value
+    ∙ ap (located_rows found.batches.items) c.deref-2.ensures.value ∙ c.in_ok-found.ensures.rows in
+    subst (Writes (g.S.Sink.sunk c.args.sink.now) (g.S.Sink.sunk c.write_locations.new.sink) c.write_locations.result)
+    (ap (λ rows. canon fs (picked_rows c.args.columns.now rows)) (c.alone-rows.ensures.rows ∙ lie)) c.write_locations.ensures

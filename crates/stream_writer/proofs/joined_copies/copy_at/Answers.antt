@@ -1,6 +1,6 @@
 use Rattle.std.proofs.Common.{◌∙◌, sym}
 use Rattle.std.proofs.lemmas.Result.{IfOk-weaker}
-use Rattle.body_writer.proofs.PlacedColumns.{placed-item}
+use Rattle.body_writer.proofs.LocatedColumns.{placed-item}
 use Rattle.stream_writer.proofs.JoinedLemmas.{column-cell}
 use Rattle.stream_writer.proofs.joined_copies.copy_at.Goals as goal
 
@@ -10,7 +10,7 @@ copy_cell-requires c =
     let have = c.requires.have in (
       have.width,
       have.below,
-      placed-item have.width r.batches.now r.places.now c.args.index _ have.placed c.requires.below,
+      placed-item have.width r.batches.now r.locations.now c.args.index _ have.placed c.requires.below,
     )
 
 pub returns : goal.returns

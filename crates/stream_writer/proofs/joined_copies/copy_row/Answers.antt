@@ -1,6 +1,6 @@
 use Rattle.std.proofs.Common.{[], get_or}
 use Rattle.stream_writer.specs.JoinedRows.{joined_rows}
-use Rattle.stream_writer.proofs.PlaceRowLemmas.{cell-found, column-found, places-many}
+use Rattle.stream_writer.proofs.PlaceRowLemmas.{cell-found, column-found, locations-many}
 use Rattle.stream_writer.proofs.RangeLemmas.{cell-copied}
 use Rattle.stream_writer.proofs.joined_copies.copy_row.Goals as goal
 
@@ -11,7 +11,7 @@ copy_at-requires-clause-have c =
 
 pub copy_at-requires-clause-below : goal.copy_at-requires-clause-below
 copy_at-requires-clause-below c =
-    places-many c.args.columns.now c.args.rows.now c.loop-column.column-index c.args.index c.half-half.result.now
+    locations-many c.args.columns.now c.args.rows.now c.loop-column.column-index c.args.index c.half-half.result.now
     c.requires.have c.half-half.ensures c.requires.below
 
 pub loop-column-preserved : goal.loop-column-preserved

@@ -1,4 +1,4 @@
-use Rattle.sub_groups.proofs.StandInRows.{sub_groups_placed}
+use Rattle.sub_groups.proofs.RepresentativeRows.{sub_groups_placed}
 use Rattle.sub_groups.proofs.laws.sub_group_law.Goals as goal
 
 pub returns-clause-placed : goal.returns-clause-placed

@@ -5,7 +5,7 @@ use Rattle.std.specs.Option.{option_map}
 use Rattle.view_lang.specs.Joined.{Side}
 use Rattle.group_state.specs.Keys.{tuple_cmp}
 use Rattle.group_state.specs.Tuples.{tuple_of}
-use Rattle.sub_groups.specs.Places.{stand_row}
+use Rattle.sub_groups.specs.Places.{representative_row}
 use Rattle.upkeep.specs.Inputs.{side_by}
 use Rattle.upkeep.specs.Stores.{rows_in, tables_in}
 use Rattle.upkeep.specs.ViewStates.{width_in}
@@ -38,7 +38,7 @@ returns-in_default-2-clause-kept c = λ rows all others grouped parted kept.
     let tables = tables_in c.args.stores.now in
     let side : Side = side_by tables (rows_in c.args.stores.now) c.args.view.now in
     let s = c.args.sub_groups.now in
-    let stand = stand_row (width_in tables) c.args.view.now side s.groups.keys c.args.tuple.now in
+    let stand = representative_row (width_in tables) c.args.view.now side s.groups.keys c.args.tuple.now in
     let none : stand ≡ None =
     made_none (tuple_of c.args.groups.now.groups.keys) stand (sym c.in_ok-place.ensures ∙ c.in_default-2.is) in
     none_moved c.args.turn c.args.groups.now _ all others

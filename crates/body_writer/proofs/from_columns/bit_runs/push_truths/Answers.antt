@@ -3,7 +3,7 @@ use Rattle.std.specs.Prelude.{Bool, ◌&&◌}
 use Rattle.std.proofs.lemmas.List.{length-map}
 use Rattle.bitmaps.specs.Bits.{bits_at, pairwise}
 use Rattle.body_writer.specs.Slots.{truth_in}
-use Rattle.body_writer.specs.Pieces.{range_cells}
+use Rattle.body_writer.specs.Segments.{range_cells}
 use Rattle.body_writer.proofs.RangeBits.{range-truths}
 use Rattle.body_writer.proofs.from_columns.bit_runs.push_truths.Goals as goal
 

@@ -3,7 +3,7 @@ use Rattle.values.specs.Rose.{Rose}
 use Rattle.values.specs.declared.layout.Layout.{Layout}
 use Rattle.array_layout.specs.declared.array.ArrayData.{ArrayData}
 use Rattle.body_writer.specs.Columns.{items, child_cells}
-use Rattle.body_writer.specs.Pieces.{ChildLies, LiesAs, pieces_cells, range_cells}
+use Rattle.body_writer.specs.Segments.{ChildLies, LiesAs, range_cells, segments_cells}
 use Rattle.body_writer.proofs.ChildLemmas.{first-only}
 use Rattle.body_writer.proofs.from_columns.children.push_below.Goals as goal
 
@@ -11,7 +11,7 @@ pub returns-in-List-clause-cells : goal.returns-in-List-clause-cells
 unfolding items
 returns-in-List-clause-cells c =
     let P : Layout → Type 0 = λ l. OnOk c.push_items.result
-    (pieces_cells c.push_items.new.all.items ≡ pieces_cells c.args.all.now.items ++ child_cells l c.args.j (range_cells
+    (segments_cells c.push_items.new.all.items ≡ segments_cells c.args.all.now.items ++ child_cells l c.args.j (range_cells
     c.args.range.now)) in
     subst P (sym c.in-List.is) c.push_items.ensures.cells
 

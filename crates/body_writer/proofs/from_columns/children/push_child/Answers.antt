@@ -3,13 +3,13 @@ use Rattle.std.proofs.lemmas.Result.{on_ok_weaker}
 use Rattle.values.specs.Rose.{Rose}
 use Rattle.values.specs.declared.layout.Layout.{Layout}
 use Rattle.array_layout.specs.declared.array.ArrayData.{ArrayData}
-use Rattle.body_writer.specs.Pieces.{ChildLies, LiesAs, OfSlots}
-use Rattle.body_writer.specs.declared.from_columns.piece.Piece.{Piece}
+use Rattle.body_writer.specs.Segments.{ChildLies, LiesAs, OfSlots}
+use Rattle.body_writer.specs.declared.from_columns.segment.Segment.{Segment}
 use Rattle.body_writer.proofs.from_columns.children.push_child.Goals as goal
 
 pub returns-in-Slots-clause-lies : goal.returns-in-Slots-clause-lies
 returns-in-Slots-clause-lies c =
-    let P : Piece → Type 0 = λ p. OnOk c.push_below.result
+    let P : Segment → Type 0 = λ p. OnOk c.push_below.result
     ((t : Rose Layout) (m : Rose ArrayData) → OfSlots (ChildLies t m c.args.j) p → All (LiesAs t m) c.args.all.now.items
     → All (LiesAs t m) c.push_below.new.all.items) in
     subst P (sym c.in-Slots.is) c.push_below.ensures.lies

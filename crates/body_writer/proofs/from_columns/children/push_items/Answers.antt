@@ -4,8 +4,8 @@ use Rattle.array_layout.specs.Buffers.{is_null}
 use Rattle.array_layout.specs.Cells.{cell}
 use Rattle.body_writer.specs.Slots.{items_in}
 use Rattle.body_writer.specs.Runs.{AreAlike}
-use Rattle.body_writer.specs.Pieces.{pieces_cells, LiesAs}
-use Rattle.body_writer.proofs.RowRangeLemmas.{pieces-more, all-more}
+use Rattle.body_writer.specs.Segments.{segments_cells, LiesAs}
+use Rattle.body_writer.proofs.RowRangeLemmas.{segments-more, all-more}
 use Rattle.body_writer.proofs.ChildLemmas.{null-items}
 use Rattle.body_writer.proofs.RunLemmas.{run-step, run-over}
 use Rattle.body_writer.proofs.from_columns.children.push_items.Goals as goal
@@ -21,9 +21,9 @@ loop-at-preserved-in_ok-push c =
       order = run.within;
       cells = run-step items_in (cell parts.body.now (node parts.own.now (kids_of parts.children.now))) c.loop-at.at
           c.run_end-end.result
-          c.args.range.now.to (pieces_cells c.loop-at.all.items) (pieces_cells c.push.new.self.items) _ _ up run.within
+          c.args.range.now.to (segments_cells c.loop-at.all.items) (segments_cells c.push.new.self.items) _ _ up run.within
           c.run_items.ensures.cells
-          (ap pieces_cells c.in_ok-push.ensures.items ∙ pieces-more c.loop-at.all.items c.run_items.result) inv.cells;
+          (ap segments_cells c.in_ok-push.ensures.items ∙ segments-more c.loop-at.all.items c.run_items.result) inv.cells;
       lies = λ t m below old. subst (All (LiesAs t m)) (sym c.in_ok-push.ensures.items)
           (all-more (LiesAs t m) c.loop-at.all.items c.run_items.result (inv.lies t m below old)
           (c.run_items.ensures.lies t m below));
@@ -44,9 +44,9 @@ loop-at-preserved c =
       order = run.within;
       cells = run-step items_in (cell parts.body.now (node parts.own.now (kids_of parts.children.now))) c.loop-at.at
           c.run_end-end.result
-          c.args.range.now.to (pieces_cells c.loop-at.all.items) (pieces_cells c.loop-at.all.items) [] _ up run.within
+          c.args.range.now.to (segments_cells c.loop-at.all.items) (segments_cells c.loop-at.all.items) [] _ up run.within
           none
-          (sym (append-nil (pieces_cells c.loop-at.all.items))) inv.cells;
+          (sym (append-nil (segments_cells c.loop-at.all.items))) inv.cells;
       lies = inv.lies;
     }
 
@@ -55,4 +55,4 @@ returns-clause-cells c =
     let parts = c.args.range.now.parts in
     run-over items_in (cell parts.body.now (node parts.own.now (kids_of parts.children.now))) c.loop-at.at
     c.args.range.now.to
-    (pieces_cells c.loop-at.all.items) _ c.loop-at-test.false c.loop-at.invariant.cells
+    (segments_cells c.loop-at.all.items) _ c.loop-at-test.false c.loop-at.invariant.cells

@@ -6,17 +6,17 @@ use Rattle.values.specs.declared.layout.Layout.{Layout}
 use Rattle.array_layout.specs.declared.array.ArrayData.{ArrayData}
 use Rattle.array_layout.specs.Cells.{cell}
 use Rattle.body_writer.specs.Runs.{slots}
-use Rattle.body_writer.specs.Pieces.{pieces_cells, ChildLies, LiesAs}
+use Rattle.body_writer.specs.Segments.{segments_cells, ChildLies, LiesAs}
 use Rattle.body_writer.proofs.from_columns.children.push_parts.Given as goal
 
 abbrev pub invariant-loop-at : goal.invariant-loop-at
 invariant-loop-at l = record {
   past : l.range.from ≤ l.at;
   order : l.at ≤ l.range.to;
-  cells : pieces_cells l.all.items
+  cells : segments_cells l.all.items
       ++ map (part l.j) (slots (cell l.range.parts.body.now (node l.range.parts.own.now (kids_of
       l.range.parts.children.now))) l.at (l.range.to - l.at))
-      ≡ pieces_cells l.fn.all.items
+      ≡ segments_cells l.fn.all.items
       ++ map (part l.j) (slots (cell l.range.parts.body.now (node l.range.parts.own.now (kids_of
       l.range.parts.children.now))) l.range.from (l.range.to - l.range.from));
   lies : (t : Rose Layout) (m : Rose ArrayData) → ChildLies t m l.j l.range → All (LiesAs t m) l.fn.all.items

@@ -4,7 +4,7 @@ use Rattle.values.specs.Reading.{IsValid}
 use Rattle.array_layout.specs.declared.array.ArrayData.{ArrayData}
 use Rattle.array_layout.specs.Cells.{cell}
 use Rattle.body_writer.specs.Runs.{slots}
-use Rattle.body_writer.specs.Pieces.{Lies}
+use Rattle.body_writer.specs.Segments.{Lies}
 use Rattle.body_writer.proofs.ChildLemmas.{list-run, run-order, run-valid, run-cells}
 use Rattle.body_writer.proofs.from_columns.children.run_items.Goals as goal
 

@@ -3,8 +3,8 @@ use Rattle.values.specs.Rose.{node, kids_of}
 use Rattle.body_writer.proofs.RowRangeLemmas.{cells-long, cell-good, column-slots, column-long, range-column}
 use Rattle.body_writer.proofs.from_columns.gather.slots_in.Goals as goal
 
-pub returns-clause-piece : goal.returns-clause-piece
-returns-clause-piece c =
+pub returns-clause-segment : goal.returns-clause-segment
+returns-clause-segment c =
     let parts = c.parts-parts.result in
     let columns = c.args.range.now.batch.now.columns.items in
     let column = c.index.result.now in

@@ -1,7 +1,7 @@
 use Rattle.std.proofs.Common.{◌≡◌, ◌+◌, drop, length}
-use Rattle.body_writer.specs.Pieces.{pieces_cells}
+use Rattle.body_writer.specs.Segments.{segments_cells}
 use Rattle.body_writer.proofs.from_columns.own.count_cells.Given as goal
 
-abbrev pub invariant-loop-piece : goal.invariant-loop-piece
-invariant-loop-piece l =
-    l.count + length (pieces_cells (drop l.piece-index l.pieces)) ≡ length (pieces_cells l.pieces)
+abbrev pub invariant-loop-segment : goal.invariant-loop-segment
+invariant-loop-segment l =
+    l.count + length (segments_cells (drop l.segment-index l.segments)) ≡ length (segments_cells l.segments)

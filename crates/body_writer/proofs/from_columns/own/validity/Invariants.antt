@@ -1,11 +1,11 @@
 use Rattle.std.proofs.Common.{◌≡◌, ◌++◌, ◌+◌, drop, length}
 use Rattle.std.specs.Prelude.{map}
 use Rattle.body_writer.specs.Slots.{is_valid}
-use Rattle.body_writer.specs.Pieces.{pieces_cells}
+use Rattle.body_writer.specs.Segments.{segments_cells}
 use Rattle.body_writer.proofs.from_columns.own.validity.Given as goal
 
-abbrev pub invariant-loop-piece : goal.invariant-loop-piece
-invariant-loop-piece l = record {
-  size : length l.bits + length (pieces_cells (drop l.piece-index l.pieces)) ≡ length (pieces_cells l.pieces);
-  bits : l.bits ++ map is_valid (pieces_cells (drop l.piece-index l.pieces)) ≡ map is_valid (pieces_cells l.pieces);
+abbrev pub invariant-loop-segment : goal.invariant-loop-segment
+invariant-loop-segment l = record {
+  size : length l.bits + length (segments_cells (drop l.segment-index l.segments)) ≡ length (segments_cells l.segments);
+  bits : l.bits ++ map is_valid (segments_cells (drop l.segment-index l.segments)) ≡ map is_valid (segments_cells l.segments);
 }

@@ -1,6 +1,6 @@
 use Rattle.std.proofs.Common.{◌≡◌, ◌++◌, map}
-use Rattle.group_order.specs.RankedParts.{place_with}
+use Rattle.group_order.specs.RankedParts.{entry_with}
 use Rattle.group_order.proofs.ranked.RankedGroups.into_parts.Given as goal
 
-abbrev pub invariant-loop-place : goal.invariant-loop-place
-invariant-loop-place l = map place_with l.taken.items ++ l.place-iterator ≡ l.fn.self.places
+abbrev pub invariant-loop-entry : goal.invariant-loop-entry
+invariant-loop-entry l = map entry_with l.taken.items ++ l.entry-iterator ≡ l.fn.self.entries

@@ -16,13 +16,13 @@ loop-tuple-preserved c =
         c.put_in.ensures.ranking ∙ inv.1.0,
         λ before k. put-step c.args.self.now c.loop-tuple.self c.put_in.new.self c.args.tuples.now
             c.loop-tuple.tuple-index c.tuple-item.result c.loop-tuple-test.true c.tuple-item.is inv.0 inv.1.0 before
-            c.in_ok-put_in.ensures.places (inv.1.1 before k),
+            c.in_ok-put_in.ensures.entries (inv.1.1 before k),
       ),
     )
 
-pub returns-clause-places : goal.returns-clause-places
-returns-clause-places c = λ before k.
-    subst (λ (ts : List (List Key)). KeepsBy tuple_cmp c.args.self.now.ranking.order c.loop-tuple.self.places
+pub returns-clause-entries : goal.returns-clause-entries
+returns-clause-entries c = λ before k.
+    subst (λ (ts : List (List Key)). KeepsBy tuple_cmp c.args.self.now.ranking.order c.loop-tuple.self.entries
     (pick tuple_cmp ts (placed_at c.args.self.now.ranking c.args.self.now.groups)
     (without tuple_cmp c.args.tuples.now before)))
     (take_all c.loop-tuple.tuple-index c.args.tuples.now c.loop-tuple-test.false) (c.loop-tuple.invariant.1.1 before k)

@@ -12,7 +12,7 @@ invariant-loop-tuple l =
     (l.self.groups ≡ l.fn.self.groups)
     × ((l.self.ranking ≡ l.fn.self.ranking)
     × ((before : List Key → Option (List Datum))
-    → KeepsBy tuple_cmp l.fn.self.ranking.order l.fn.self.places (without tuple_cmp l.tuples before)
-    → KeepsBy tuple_cmp l.fn.self.ranking.order l.self.places
+    → KeepsBy tuple_cmp l.fn.self.ranking.order l.fn.self.entries (without tuple_cmp l.tuples before)
+    → KeepsBy tuple_cmp l.fn.self.ranking.order l.self.entries
     (pick tuple_cmp (take l.tuple-index l.tuples) (placed_at l.fn.self.ranking l.fn.self.groups)
     (without tuple_cmp l.tuples before))))

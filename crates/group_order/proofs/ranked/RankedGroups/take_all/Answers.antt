@@ -16,12 +16,12 @@ loop-tuple-preserved c =
         c.take_out.ensures.ranking ∙ inv.1.0,
         λ k. take-step c.args.self.now c.loop-tuple.self c.take_out.new.self c.args.tuples.now
             c.loop-tuple.tuple-index c.tuple-item.result c.loop-tuple-test.true c.tuple-item.is inv.0 inv.1.0
-            c.in_ok-take_out.ensures.places (inv.1.1 k),
+            c.in_ok-take_out.ensures.entries (inv.1.1 k),
       ),
     )
 
-pub returns-clause-places : goal.returns-clause-places
-returns-clause-places c = λ k.
-    subst (λ (ts : List (List Key)). KeepsBy tuple_cmp c.args.self.now.ranking.order c.loop-tuple.self.places
+pub returns-clause-entries : goal.returns-clause-entries
+returns-clause-entries c = λ k.
+    subst (λ (ts : List (List Key)). KeepsBy tuple_cmp c.args.self.now.ranking.order c.loop-tuple.self.entries
     (without tuple_cmp ts (placed_at c.args.self.now.ranking c.args.self.now.groups)))
     (take_all c.loop-tuple.tuple-index c.args.tuples.now c.loop-tuple-test.false) (c.loop-tuple.invariant.1.1 k)

@@ -8,5 +8,5 @@ abbrev pub invariant-loop-tuple : goal.invariant-loop-tuple
 invariant-loop-tuple l =
     (l.self.groups ≡ l.fn.self.groups)
     × ((l.self.ranking ≡ l.fn.self.ranking)
-    × (IsRanked l.fn.self → KeepsBy tuple_cmp l.fn.self.ranking.order l.self.places
+    × (IsRanked l.fn.self → KeepsBy tuple_cmp l.fn.self.ranking.order l.self.entries
     (without tuple_cmp (take l.tuple-index l.tuples) (placed_at l.fn.self.ranking l.fn.self.groups))))

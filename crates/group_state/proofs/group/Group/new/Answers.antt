@@ -1,7 +1,7 @@
 use Rattle.std.proofs.Common.{ap, map, refl, ◌∙◌}
 use Rattle.std.proofs.lemmas.List.{take_all}
 use Rattle.group_state.specs.Cells.{fresh}
-use Rattle.group_state.specs.declared.kept_columns.KeptColumn.{KeptColumn}
+use Rattle.group_state.specs.declared.accumulated_columns.AccumulatedColumn.{AccumulatedColumn}
 use Rattle.group_state.proofs.Halfway.{fresh-rows}
 use Rattle.group_state.proofs.group.Group.new.Goals as goal
 
@@ -10,6 +10,6 @@ returns c = record {
   rows_are = refl;
   tallies_are =
       fresh-rows c.args.columns.now c.loop-column.tallies.items
-      (c.loop-column.invariant ∙ ap (map (λ (k : KeptColumn). fresh k.form))
+      (c.loop-column.invariant ∙ ap (map (λ (k : AccumulatedColumn). fresh k.form))
       (take_all c.loop-column.column-index c.args.columns.now c.loop-column-test.false));
 }

@@ -1,7 +1,7 @@
 use Rattle.std.proofs.Common.{ℕ, List, subst, sym, true}
 use Rattle.std.specs.Prelude.{MatchOption}
 use Rattle.row_keys.specs.Entries.{AreInOrder, all_entries}
-use Rattle.row_keys.specs.declared.numbers.KeptEntry.{KeptEntry}
+use Rattle.row_keys.specs.declared.numbers.RetainedEntry.{RetainedEntry}
 use Rattle.row_keys.specs.Index.{HoldsPlace, IsFree}
 use Rattle.row_keys.specs.Numbers.{IsAt, IsUnused, Numbered}
 use Rattle.row_keys.proofs.Indexes.{found_row, no_row}
@@ -14,7 +14,7 @@ returns-in-Some c =
     λ hs. MatchOption c.holder.result
     (IsFree hs (all_entries c.self.inside.kept.items c.self.inside.len) c.in-Some.place)
     (HoldsPlace (all_entries c.self.inside.kept.items c.self.inside.len) c.in-Some.place) in
-    let Q : List KeptEntry
+    let Q : List RetainedEntry
     → Type 0 =
     λ ks. AreInOrder 0 ks c.self.inside.len
     → MatchOption c.holder.result (IsFree c.deref.result.now (all_entries ks c.self.inside.len) c.in-Some.place)
@@ -36,5 +36,5 @@ returns-in-None c =
 
 pub holder-requires : goal.holder-requires
 holder-requires c =
-    let P : List KeptEntry → Type 0 = λ ks. AreInOrder 0 ks c.self.inside.len in
+    let P : List RetainedEntry → Type 0 = λ ks. AreInOrder 0 ks c.self.inside.len in
     (c.self.inside.len, subst P (sym c.deref-in-Some.ensures.value) c.self.invariant.order)

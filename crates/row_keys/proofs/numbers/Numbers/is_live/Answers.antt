@@ -1,6 +1,6 @@
 use Rattle.std.proofs.Common.{ap}
 use Rattle.row_keys.specs.Numbers.{Numbered}
-use Rattle.row_keys.proofs.KeptIndex.{kept_seen}
+use Rattle.row_keys.proofs.RetainedIndex.{kept_seen}
 use Rattle.row_keys.proofs.numbers.Numbers.is_live.Goals as goal
 
 pub returns : goal.returns

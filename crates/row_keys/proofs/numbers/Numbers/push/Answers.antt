@@ -3,14 +3,14 @@ use Rattle.std.specs.Prelude.{if◌then◌else◌, is_ok}
 use Rattle.std.proofs.lemmas.Grind.{common_steps}
 use Rattle.row_keys.specs.Entries.{AreInOrder, all_entries}
 use Rattle.row_keys.specs.declared.numbers.Entry.{Entry}
-use Rattle.row_keys.specs.declared.numbers.KeptEntry.{KeptEntry}
+use Rattle.row_keys.specs.declared.numbers.RetainedEntry.{RetainedEntry}
 use Rattle.row_keys.specs.Index.{HoldsPlace, IsFree, IsIndex, Puts, seen_all}
 use Rattle.row_keys.specs.Numbers.{IsAt, IsUnused, Numbered, numbered}
 use Rattle.row_keys.proofs.GoneRows.{Started, key_there, place_within, started}
 use Rattle.row_keys.proofs.Indexes.{found_row}
 use Rattle.row_keys.proofs.IndexChanges.{index_pushed, new_entry, rows_pushed, unused_before}
-use Rattle.row_keys.proofs.KeptEntries.{entries_long, entries_pushed, order_more}
-use Rattle.row_keys.proofs.KeptIndex.{live_fits}
+use Rattle.row_keys.proofs.RetainedEntries.{entries_long, entries_pushed, order_more}
+use Rattle.row_keys.proofs.RetainedIndex.{live_fits}
 use Rattle.row_keys.proofs.numbers.Numbers.push.Goals as goal
 
 pub overflow_add-self : goal.overflow_add-self
@@ -26,7 +26,7 @@ before c = all_entries c.self.inside.kept.items c.self.inside.len
 abbrev fresh : goal.After-self-2-1 → Bool
 fresh c = nat_eq c.in_ok-place.place c.len.result
 
-abbrev last : goal.After-self-2-1 → KeptEntry
+abbrev last : goal.After-self-2-1 → RetainedEntry
 last c = record { number = c.self.inside.len; entry = new_entry c.in_ok-place.place (fresh c) }
 
 start : (c : goal.After-self-2-1)
@@ -53,7 +53,7 @@ pushed c =
 
 order : (c : goal.After-self-2-1) → AreInOrder 0 c.push.new.self.items c.in_ok-len.len
 order c =
-    let P : List KeptEntry → Type 0 = λ ks. AreInOrder 0 ks c.in_ok-len.len in
+    let P : List RetainedEntry → Type 0 = λ ks. AreInOrder 0 ks c.in_ok-len.len in
     let more = c.in_ok-len.ensures.0 in
     subst P (sym (items c))
     (order_more 0 c.self.inside.len c.in_ok-len.len c.self.inside.kept.items (last c) c.self.invariant.order
@@ -70,7 +70,7 @@ puts c =
 free : (c : goal.After-self-2-1) → IsFree c.place_null.new.holders.items (before c) c.in_ok-place.place
 free c =
     let P : List ℕ → Type 0 = λ hs. IsFree hs (before c) c.in_ok-place.place in
-    let Q : List KeptEntry
+    let Q : List RetainedEntry
     → Type 0 =
     λ ks. AreInOrder 0 ks c.self.inside.len
     → IsFree c.deref.result.now (all_entries ks c.self.inside.len) c.in_ok-place.place in
@@ -119,7 +119,7 @@ started_there c =
 
 holds : (c : goal.In-Some) → HoldsPlace (before_there c) c.in_ok-place.place c.in-Some.number
 holds c =
-    let Q : List KeptEntry
+    let Q : List RetainedEntry
     → Type 0 =
     λ ks. AreInOrder 0 ks c.self.inside.len
     → HoldsPlace (all_entries ks c.self.inside.len) c.in_ok-place.place c.in-Some.number in
@@ -156,7 +156,7 @@ returns-in-Some-clause-pushed c =
 
 pub holder-requires : goal.holder-requires
 holder-requires c =
-    let P : List KeptEntry → Type 0 = λ ks. AreInOrder 0 ks c.self.inside.len in
+    let P : List RetainedEntry → Type 0 = λ ks. AreInOrder 0 ks c.self.inside.len in
     (c.self.inside.len, subst P (sym (c.deref-2.ensures.value ∙ c.reserve.ensures.items)) c.self.invariant.order)
 
 pub hold-requires-clause-within : goal.hold-requires-clause-within

@@ -1,4 +1,4 @@
-use Rattle.row_keys.proofs.KeptIndex.{index_forgotten, seen_forgotten}
+use Rattle.row_keys.proofs.RetainedIndex.{index_forgotten, seen_forgotten}
 use Rattle.row_keys.proofs.numbers.Numbers.release.Goals as goal
 
 pub invariant_of-self : goal.invariant_of-self

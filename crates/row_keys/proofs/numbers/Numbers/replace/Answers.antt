@@ -1,7 +1,7 @@
 use Rattle.std.proofs.Common.{false, true, ◌∙◌, ap, arith}
 use Rattle.row_keys.specs.Entries.{AreInOrder, entry_in}
 use Rattle.row_keys.proofs.IndexChanges.{new_entry}
-use Rattle.row_keys.proofs.KeptIndex.{all_pushed, at_below, kept_keyed, kept_replaced, order_pushed}
+use Rattle.row_keys.proofs.RetainedIndex.{all_pushed, at_below, kept_keyed, kept_replaced, order_pushed}
 use Rattle.row_keys.proofs.numbers.Numbers.replace.Goals as goal
 
 pub set_live-requires-clause-order : goal.set_live-requires-clause-order

@@ -1,5 +1,5 @@
 use Rattle.std.proofs.Common.{false}
-use Rattle.row_keys.proofs.KeptIndex.{index_off, live_there, seen_turned}
+use Rattle.row_keys.proofs.RetainedIndex.{index_off, live_there, seen_turned}
 use Rattle.row_keys.proofs.numbers.Numbers.retract.Goals as goal
 
 pub overflow_sub-self : goal.overflow_sub-self

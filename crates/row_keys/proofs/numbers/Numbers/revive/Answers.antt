@@ -1,5 +1,5 @@
 use Rattle.std.proofs.Common.{arith, false, true}
-use Rattle.row_keys.proofs.KeptIndex.{at_below, gone_not, index_on, kept_keyed, live_fits, seen_turned}
+use Rattle.row_keys.proofs.RetainedIndex.{at_below, gone_not, index_on, kept_keyed, live_fits, seen_turned}
 use Rattle.row_keys.proofs.numbers.Numbers.revive.Goals as goal
 
 pub index_mut-requires : goal.index_mut-requires

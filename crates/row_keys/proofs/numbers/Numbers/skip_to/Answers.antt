@@ -6,7 +6,7 @@ use Rattle.row_keys.specs.Entries.{all_entries}
 use Rattle.row_keys.specs.Index.{IsIndex, seen, seen_all}
 use Rattle.row_keys.specs.Numbers.{no_row}
 use Rattle.row_keys.proofs.GoneRows.{index_skipped, seen_skipped, started}
-use Rattle.row_keys.proofs.KeptEntries.{entries_long, entries_passed, order_upto}
+use Rattle.row_keys.proofs.RetainedEntries.{entries_long, entries_passed, order_upto}
 use Rattle.row_keys.proofs.numbers.Numbers.skip_to.Goals as goal
 
 pub invariant_of-self-2 : goal.invariant_of-self-2

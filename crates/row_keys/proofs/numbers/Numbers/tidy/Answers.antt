@@ -1,7 +1,7 @@
 use Rattle.std.proofs.Common.{◌∙◌, ap}
 use Rattle.row_keys.specs.Entries.{all_entries}
 use Rattle.row_keys.specs.Index.{seen_all}
-use Rattle.row_keys.proofs.KeptEntries.{entries_swept, index_swept}
+use Rattle.row_keys.proofs.RetainedEntries.{entries_swept, index_swept}
 use Rattle.row_keys.proofs.numbers.Numbers.tidy.Goals as goal
 
 pub invariant_of-self : goal.invariant_of-self

@@ -10,10 +10,10 @@ use Rattle.row_keys.proofs.store.RowStore.first_live_numbers.Goals as goal
 
 pub loop-number-init : goal.loop-number-init
 loop-number-init c = record {
-  within = c.next_kept-number.ensures.within;
+  within = c.next_retained-number.ensures.within;
   listed = rw c.in_ok-numbers.ensures.items
-      (first_over c.args.self.now.slots c.args.most 0 c.next_kept-number.result c.next_kept-number.result _ (omega arith)
-      (first_none c.args.self.now.slots c.args.most) c.next_kept-number.ensures.within c.next_kept-number.ensures.dead);
+      (first_over c.args.self.now.slots c.args.most 0 c.next_retained-number.result c.next_retained-number.result _ (omega arith)
+      (first_none c.args.self.now.slots c.args.most) c.next_retained-number.ensures.within c.next_retained-number.ensures.dead);
 }
 
 pub loop-number-preserved : goal.loop-number-preserved
@@ -21,8 +21,8 @@ loop-number-preserved c =
     let slots = c.args.self.now.slots in
     let most = c.args.most in
     let n = c.loop-number.number in
-    let m = c.next_kept-number-in-loop-number.result in
-    let next = c.next_kept-number-in-loop-number.ensures in
+    let m = c.next_retained-number-in-loop-number.result in
+    let next = c.next_retained-number-in-loop-number.ensures in
     let many = c.len-in-loop-number.ensures ∙ c.loop-number.numbers.ok.0 in
     record {
       within = next.within;

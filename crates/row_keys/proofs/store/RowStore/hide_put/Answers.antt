@@ -1,15 +1,15 @@
 use Rattle.std.proofs.Common.{◌≡◌, List, ap, subst, sym, ◌∙◌}
 use Rattle.row_keys.specs.Slots.{
   CanPutBack,
+  CanRevert,
   CanShowPut,
-  CanTakeBack,
   Slot,
   last_numbers,
   live,
   put_back,
   put_hidden,
   put_shown,
-  taken_back,
+  reverted,
 }
 use Rattle.row_keys.specs.Store.{Store}
 use Rattle.row_keys.proofs.HiddenRows.{hidden_can, hidden_live, hidden_shown, hidden_take, hidden_taken, hide_can}
@@ -48,11 +48,11 @@ returns-clause-shown c =
 
 pub returns-clause-can_take : goal.returns-clause-can_take
 returns-clause-can_take c =
-    let P : List Slot → Type 0 = λ ss. CanTakeBack c.args.rows ss in
+    let P : List Slot → Type 0 = λ ss. CanRevert c.args.rows ss in
     subst P (sym (hidden c))
     (hidden_take c.args.self.now.table c.args.rows c.args.replaced.now c.args.self.now.slots c.requires)
 
 pub returns-clause-taken : goal.returns-clause-taken
 returns-clause-taken c =
-    ap (λ ss. taken_back c.args.rows ss) (hidden c)
+    ap (λ ss. reverted c.args.rows ss) (hidden c)
     ∙ hidden_taken c.args.self.now.table c.args.rows c.args.replaced.now c.args.self.now.slots c.requires

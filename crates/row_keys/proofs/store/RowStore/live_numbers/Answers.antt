@@ -5,18 +5,18 @@ use Rattle.row_keys.proofs.store.RowStore.live_numbers.Goals as goal
 
 pub loop-number-init : goal.loop-number-init
 loop-number-init c = record {
-  within = c.next_kept-number.ensures.within;
+  within = c.next_retained-number.ensures.within;
   listed = rw c.in_ok-numbers.ensures.items
-      (listed_over c.args.self.now.slots 0 c.next_kept-number.result c.next_kept-number.result _ (omega arith)
-      (listed_none c.args.self.now.slots) c.next_kept-number.ensures.within c.next_kept-number.ensures.dead);
+      (listed_over c.args.self.now.slots 0 c.next_retained-number.result c.next_retained-number.result _ (omega arith)
+      (listed_none c.args.self.now.slots) c.next_retained-number.ensures.within c.next_retained-number.ensures.dead);
 }
 
 pub loop-number-preserved : goal.loop-number-preserved
 loop-number-preserved c =
     let slots = c.args.self.now.slots in
     let n = c.loop-number.number in
-    let m = c.next_kept-number-in-loop-number.result in
-    let next = c.next_kept-number-in-loop-number.ensures in
+    let m = c.next_retained-number-in-loop-number.result in
+    let next = c.next_retained-number-in-loop-number.ensures in
     record {
       within = next.within;
       listed = listed_over slots (n + 1) (m - (n + 1)) m c.if-is_live.numbers.items (omega (arith, next.from))

@@ -1,6 +1,6 @@
 use Rattle.std.proofs.Common.{◌≡◌, List, ap, arith, subst, sym, ◌∙◌}
 use Rattle.row_keys.specs.Numbers.{Numbered, revived}
-use Rattle.row_keys.specs.Slots.{CanPutBack, CanTakeBack, Slot, last_numbers, put_back}
+use Rattle.row_keys.specs.Slots.{CanPutBack, CanRevert, Slot, last_numbers, put_back}
 use Rattle.row_keys.specs.Store.{Store, with_slots}
 use Rattle.row_keys.specs.Stored.{IsStored, joined}
 use Rattle.row_keys.proofs.LastRows.{from_last, revive_last}
@@ -10,7 +10,7 @@ use Rattle.row_keys.proofs.store.RowStore.put_back_last.Goals as goal
 
 pub overflow_sub-first : goal.overflow_sub-first
 overflow_sub-first c =
-    let P : Store → Type 0 = λ s. CanTakeBack c.args.count s.slots in
+    let P : Store → Type 0 = λ s. CanRevert c.args.count s.slots in
     let below =
     can_take c.self.inside.table c.self.inside.rows c.self.inside.numbers
     c.args.count c.self.invariant (subst P (sym c.self.view_is) c.requires.few) in
@@ -18,7 +18,7 @@ overflow_sub-first c =
 
 pub revive_from-requires-clause-retracted : goal.revive_from-requires-clause-retracted
 revive_from-requires-clause-retracted c =
-    let P : Store → Type 0 = λ s. CanTakeBack c.args.count s.slots in
+    let P : Store → Type 0 = λ s. CanRevert c.args.count s.slots in
     let Q : Store → Type 0 = λ s. CanPutBack s.table (last_numbers c.args.count s.slots) s.slots in
     revive_last c.self.inside.table c.self.inside.rows c.self.inside.numbers
     c.args.count c.len.result c.self.invariant (subst P (sym c.self.view_is) c.requires.few) c.len.ensures.value
@@ -30,7 +30,7 @@ slots c = joined c.self.inside.rows c.self.inside.numbers
 on : (c : goal.After-revive_from)
     → c.revive_from.new.rows ≡ revived (last_numbers c.args.count (slots c)) c.self.inside.numbers
 on c =
-    let P : Store → Type 0 = λ s. CanTakeBack c.args.count s.slots in
+    let P : Store → Type 0 = λ s. CanRevert c.args.count s.slots in
     c.revive_from.ensures
     ∙ ap (λ ms. revived ms c.self.inside.numbers)
     (from_last c.self.inside.table c.self.inside.rows c.self.inside.numbers

@@ -1,6 +1,6 @@
 use Rattle.std.proofs.Common.{◌≡◌, List, ap, arith, subst, sym, ◌∙◌}
 use Rattle.row_keys.specs.Numbers.{Numbered, turned_off}
-use Rattle.row_keys.specs.Slots.{CanPutBack, CanRetract, CanTakeBack, Slot, last_numbers, put_back, retracted}
+use Rattle.row_keys.specs.Slots.{CanPutBack, CanRetract, CanRevert, Slot, last_numbers, put_back, retracted}
 use Rattle.row_keys.specs.Store.{Store, with_slots}
 use Rattle.row_keys.specs.Stored.{IsStored, joined}
 use Rattle.row_keys.proofs.LastRows.{from_last, live_last}
@@ -10,7 +10,7 @@ use Rattle.row_keys.proofs.store.RowStore.retract_last.Goals as goal
 
 pub overflow_sub-first : goal.overflow_sub-first
 overflow_sub-first c =
-    let P : Store → Type 0 = λ s. CanTakeBack c.args.count s.slots in
+    let P : Store → Type 0 = λ s. CanRevert c.args.count s.slots in
     let below =
     can_take c.self.inside.table c.self.inside.rows c.self.inside.numbers
     c.args.count c.self.invariant (subst P (sym c.self.view_is) c.requires.few) in
@@ -18,7 +18,7 @@ overflow_sub-first c =
 
 pub retract_from-requires : goal.retract_from-requires
 retract_from-requires c =
-    let P : Store → Type 0 = λ s. CanTakeBack c.args.count s.slots in
+    let P : Store → Type 0 = λ s. CanRevert c.args.count s.slots in
     let Q : Store → Type 0 = λ s. CanRetract (last_numbers c.args.count s.slots) s.slots in
     live_last c.self.inside.table c.self.inside.rows c.self.inside.numbers
     c.args.count c.len.result c.self.invariant (subst P (sym c.self.view_is) c.requires.few) c.len.ensures.value
@@ -35,7 +35,7 @@ can c =
 off : (c : goal.After-retract_from)
     → c.retract_from.new.rows ≡ turned_off (last_numbers c.args.count (slots c)) c.self.inside.numbers
 off c =
-    let P : Store → Type 0 = λ s. CanTakeBack c.args.count s.slots in
+    let P : Store → Type 0 = λ s. CanRevert c.args.count s.slots in
     c.retract_from.ensures
     ∙ ap (λ ms. turned_off ms c.self.inside.numbers)
     (from_last c.self.inside.table c.self.inside.rows c.self.inside.numbers

@@ -6,4 +6,4 @@ returns-clause-kept c = λ rows s is k.
     let changed = c.args.changed.now in
     keeps-one c.args.self.now c.remove_before.new.self c.insert_after.new.self changed.number changed.before
     changed.after rows c.remove_before.ensures.order c.insert_after.ensures.order
-    c.in_ok-remove_before.ensures.places c.in_ok-insert_after.ensures.places s is k
+    c.in_ok-remove_before.ensures.order_entries c.in_ok-insert_after.ensures.order_entries s is k

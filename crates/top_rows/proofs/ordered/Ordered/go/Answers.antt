@@ -6,4 +6,4 @@ pub returns-clause-kept : goal.returns-clause-kept
 returns-clause-kept g c = λ rows s is k.
     keeps-one c.args.self.now c.remove.new.self c.remove.new.self c.args.number
     (Some (g.R.RowView.cells c.args.row.now)) None rows c.remove.ensures.order refl
-    c.in_ok-remove.ensures.places (λ p. refl) s is k
+    c.in_ok-remove.ensures.order_entries (λ p. refl) s is k

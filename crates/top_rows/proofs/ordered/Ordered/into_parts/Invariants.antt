@@ -1,6 +1,6 @@
 use Rattle.std.proofs.Common.{◌≡◌, ◌++◌, map}
-use Rattle.top_rows.specs.OrderParts.{place_with}
+use Rattle.top_rows.specs.OrderParts.{entry_with}
 use Rattle.top_rows.proofs.ordered.Ordered.into_parts.Given as goal
 
-abbrev pub invariant-loop-place : goal.invariant-loop-place
-invariant-loop-place l = map place_with l.taken.items ++ l.place-iterator ≡ l.fn.self.places
+abbrev pub invariant-loop-entry : goal.invariant-loop-entry
+invariant-loop-entry l = map entry_with l.taken.items ++ l.entry-iterator ≡ l.fn.self.order_entries

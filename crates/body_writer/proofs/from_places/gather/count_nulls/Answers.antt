@@ -1,9 +1,0 @@
-use Rattle.body_writer.proofs.GatheredCells.{fits-item}
-use Rattle.body_writer.proofs.from_places.gather.count_nulls.Goals as goal
-
-pub is_valid_at-requires : goal.is_valid_at-requires
-is_valid_at-requires c = (
-  c.requires.0,
-  fits-item c.requires.0 c.args.arrays.now c.args.places.now c.loop-place.place-index _ c.requires.1
-      c.loop-place-test.true,
-)

@@ -1,0 +1,6 @@
+use Rattle.std.proofs.Common.{take}
+use Rattle.row_keys.specs.Locations.{MayBeAtLocations}
+use Rattle.row_keys.proofs.locating.find_locations_if.Given as goal
+
+abbrev pub invariant-loop-number : goal.invariant-loop-number
+invariant-loop-number l = MayBeAtLocations l.chunks (take l.number-index l.numbers) l.locations.items
