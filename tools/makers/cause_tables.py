@@ -1,8 +1,8 @@
 #!/usr/bin/env python3
-"""Writes all tables of causes. Their numbers, names and texts are those of `Cause` in crates/values/src/causes.rt, the one table that is
-made by hand: of it are made the tables of include/lv.h, of python/lv/causes.py and of docs/CAUSES.md, the names there and in specs/Causes,
-the faults of streams, of edits and of configurations with the causes of the same names, what proofs say of each of them, and where a
-comment says which numbers are whose.
+"""Writes all tables of causes. Their numbers, names, rules and texts are those of `Cause` in crates/values/src/causes.rt, the one table
+that is made by hand: of it are made the tables of include/lv.h, of python/lv/causes.py and of docs/CAUSES.md, the rules in docs/FORMAT.md
+and docs/VIEWS.md, the names there and in specs/Causes, the faults of streams, of edits and of configurations with the causes of the same
+names, what proofs say of each of them, and where a comment says which numbers are whose.
 With --check it writes nothing, and says which file isn't as it would be written."""
 import os
 import re
@@ -12,6 +12,9 @@ import textwrap
 WIDTH = 118
 ROOT = os.path.abspath(f"{__file__}/../../..")
 HEADER, PYTHON, PAGE = "include/lv.h", "python/lv/causes.py", "docs/CAUSES.md"
+# The pages that say where a cause stands, and the lines in which they say it of one.
+FORMAT, VIEWS = "docs/FORMAT.md", "docs/VIEWS.md"
+ROW, ITEM = r"^\| \d+ \| [A-Z]\w+ \| (?:framing|metadata|body|any|at the end)\b.*\n", r"^- \*\*\d+ \w+\*\*: .*\n(?:  .*\n)*"
 SOURCE = "crates/values/src/causes.rt"
 PYTHON_HEAD = '''"""The causes of a refusal by number: their names, and what they say. Written by tools/makers/cause_tables.py."""
 
@@ -57,11 +60,11 @@ def read(path):
         return file.read()
 
 
-def causes():
-    """The number, the name and the text of each cause."""
+def declared():
+    """The number, the name, the text and the rule of each cause. The rule is its comment, without the full stop."""
     body = re.search(r"pub enum Cause \{\n(.*?)\n\}", read(SOURCE), re.S)[1]
-    for text, name, number in re.findall(r'^ *#\[error\("(.*)"\)\]\n *(\w+) = (\d+),$', body, re.M):
-        yield int(number), name, text
+    for comment, text, name, number in re.findall(r'((?:^ *///.*\n)+) *#\[error\("(.*)"\)\]\n *(\w+) = (\d+),$', body, re.M):
+        yield int(number), name, text, " ".join(re.findall(r"/// (.*)", comment)).removesuffix(".")
 
 
 def constant(name):
@@ -115,13 +118,40 @@ def python(table):
     return PYTHON_HEAD + "".join(lines) + "}\n"
 
 
+def row(number, name, rule):
+    """A rule of a stream: the stage in which it is checked, and what is wrong."""
+    stage, stands = re.fullmatch(r"\*([\w, ]+)\*: (.*)", rule).groups()
+    return f"| {number} | {name} | {stage} | {stands} |\n"
+
+
+def item(number, name, rule):
+    text = f"- **{number} {name}**: {rule}."
+    return textwrap.fill(text, 120, subsequent_indent="  ", break_long_words=False, break_on_hyphens=False) + "\n"
+
+
+def ruled(text, form, kind, line, rules):
+    """A page in which the lines of this form that are about causes of this kind are those of their rules."""
+    for it in re.finditer(f"(?:{form})+", text, re.M):
+        if kind_of(int(re.search(r"\d+", it[0])[0])) == kind:
+            lines = "".join(line(number, name, rule) for number, name, rule in rules if kind_of(number) == kind)
+            return text[: it.start()] + lines + text[it.end() :]
+    sys.exit(f"causes: no rules of the causes from {kind} on")
+
+
+def pages(rules):
+    """The pages that say where each cause stands."""
+    views = ruled(read(VIEWS), ITEM, CONFIGURATION, item, rules)
+    return {FORMAT: ruled(read(FORMAT), ROW, STREAM, row, rules), VIEWS: ruled(views, ITEM, EDIT, item, rules)}
+
+
 def page(table):
     return ranged(PAGE_HEAD, table) + "".join(f"| {number} | {name} | {text} |\n" for number, name, text in table)
 
 
 def main():
-    table, stale = list(causes()), []
-    made = crates(table) | {HEADER: header(table), PYTHON: python(table), PAGE: page(table)}
+    causes, stale = list(declared()), []
+    table, rules = [it[:3] for it in causes], [(number, name, rule) for number, name, _, rule in causes]
+    made = crates(table) | {HEADER: header(table), PYTHON: python(table), PAGE: page(table)} | pages(rules)
     for path, text in made.items():
         if "--check" not in sys.argv:
             with open(f"{ROOT}/{path}", "w", encoding="utf-8") as file:
