@@ -14,7 +14,7 @@ use crate::range_bounds::bound_values;
 use body_writer::{Batch, BatchArrays, MAX_LIGHT_ROW};
 use std::alloc::{AllocError, Global};
 use values::limits::MAX_CELL_WEIGHT;
-use values::{LayoutTree, slot};
+use values::{LayoutTree, null_weight};
 
 /// A weight that no cell in column `j` of a batch is above as a value of this layout, or `None` where nothing is known.
 fn bound_in(layout: &LayoutTree, j: usize, batch: &Batch) -> Option<u64>
@@ -32,7 +32,7 @@ fn bound_in(layout: &LayoutTree, j: usize, batch: &Batch) -> Option<u64>
 fn bound_column(layout: &LayoutTree, j: usize, batches: &[&Batch]) -> Option<u64>
     ensures { IfSome result (BoundsColumn layout.now j batches.now) }
 {
-    let mut most = slot(layout);
+    let mut most = null_weight(layout);
     if most > MAX_CELL_WEIGHT {
         return None;
     }

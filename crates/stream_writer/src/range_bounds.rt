@@ -14,7 +14,7 @@ ghost use Rattle.stream_writer.specs.RangeRows.{HoldRows};
 use arrays::Column;
 use body_writer::{MAX_LIGHT_ROW, RowRange};
 use values::limits::MAX_CELL_WEIGHT;
-use values::{Layout, LayoutTree, slot};
+use values::{Layout, LayoutTree, null_weight};
 
 /// Where a range has at least one in this many of its batch's rows, the bound of the whole column is used.
 const SPARSE: usize = 8;
@@ -60,7 +60,7 @@ pub(crate) fn bound_values(
     column.law();
     let most = match layout.layout {
         Layout::List { .. } | Layout::Struct => return None,
-        _ => bound_cells(column, from, to).max(slot(layout)),
+        _ => bound_cells(column, from, to).max(null_weight(layout)),
     };
     if most > MAX_CELL_WEIGHT {
         return None;

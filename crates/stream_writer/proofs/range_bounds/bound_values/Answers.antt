@@ -9,5 +9,5 @@ returns c =
     record { list = c.in_default.not-List; struct = c.in_default.not-Struct } in
     let small = c.if-most-gt-MAX_CELL_WEIGHT.false in
     values-bounded c.args.layout.now c.layout.inside.layout (kids_of c.layout.inside.children.items) c.args.column.now
-    c.args.from c.args.to c.bound_cells.result c.slot.result c.max-most.result (sym c.layout.view_is) flat c.law.ensures
-    c.requires c.bound_cells.ensures c.slot.ensures c.max-most.ensures (omega (arith, small))
+    c.args.from c.args.to c.bound_cells.result c.null_weight.result c.max-most.result (sym c.layout.view_is) flat c.law.ensures
+    c.requires c.bound_cells.ensures c.null_weight.ensures c.max-most.ensures (omega (arith, small))
