@@ -5,7 +5,7 @@ use Rattle.std.specs.Option.{option_map}
 use Rattle.values.specs.Reading.{FailsWith, Reading, mapped}
 use Rattle.values.specs.declared.faults.StreamFault.{StreamFault}
 use Rattle.values.specs.declared.faults.StreamFault.TheVariants as fault
-use Rattle.values.proofs.Readings.{valid_Ok, stands_mapped}
+use Rattle.values.proofs.Readings.{stands_mapped, valid_Ok}
 use Rattle.feed.specs.declared.condition.Condition.{Condition}
 use Rattle.feed.specs.declared.condition.Condition.TheVariants as condition
 use Rattle.feed.specs.declared.event.Fed.{Fed}
@@ -13,7 +13,7 @@ use Rattle.feed.specs.CutLaw.{PartialUses, WholeUses}
 use Rattle.feed.specs.Events.{Event, Given, batch, dictionary, ended, given, schema}
 use Rattle.feed.specs.Retained.{Retained, stream_in}
 use Rattle.feed.specs.Shown.{FeedParts, Shows, breaks, event_seen, seen}
-use Rattle.feed.specs.States.{FeedState, Finishes, Gives, after_push, closed, condition_after, finishing_when, fresh, gives, given_when, retained_in}
+use Rattle.feed.specs.States.{FeedState, Finishes, Gives, after_push, closed, condition_after, finishing_when, fresh, given_when, gives, retained_in}
 use Rattle.feed.specs.Pieces.{NothingLeft, PushKeeps, RefusalEnds}
 use Rattle.feed.specs.Transcript.{Transcript, led_by, no_events, transcript}
 use Rattle.liveviews.specs.Inspect.{
@@ -29,8 +29,8 @@ use Rattle.liveviews.specs.Inspect.{
 }
 use Rattle.liveviews.specs.Inspecting.{
   Breaks,
-  HasRun,
   HasConsumed,
+  HasRun,
   IsFresh,
   IsLeft,
   IsOpen,

@@ -10,7 +10,7 @@ use Rattle.values.specs.declared.causes.Cause.TheVariants as cause
 use Rattle.values.specs.declared.layout.Layout.{Layout}
 use Rattle.schema_meta.specs.Rows.{rows_in, rows_from, row_at}
 use Rattle.body_writer.specs.Heavy.{HasHeavyRow, IsHeavy}
-use Rattle.liveviews.specs.Taken.{AreFit, AreAccepted, IsAcceptedRow, RefusesRows}
+use Rattle.liveviews.specs.Taken.{AreAccepted, AreFit, IsAcceptedRow, RefusesRows}
 use Rattle.liveviews.specs.Refused.{RefusesBatch}
 
 pub rows_from-length : (columns : List (List Datum)) (i n : ℕ) → length (rows_from columns i n) ≡ n

@@ -1,10 +1,10 @@
 -- What is kept beside the rows.
 use Rattle.std.proofs.Common.{◌≡◌, ℕ, zero, suc, ◌+◌, ◌<◌, ◌≤◌, List, [], ◌∷◌, ◌++◌, length, drop, get_or, refl, ap, sym, subst, ◌∙◌, arith, append-nil, All, length-append}
 use Rattle.std.specs.Prelude.{map, Option, None, Some}
-use Rattle.std.proofs.lemmas.List.{drop_more, drop_all, length-map}
+use Rattle.std.proofs.lemmas.List.{drop_all, drop_more, length-map}
 use Rattle.std.proofs.lemmas.List.Concat.{flat_map-append}
 use Rattle.std.proofs.lemmas.List.Elements.{All-append, All-cons, All-nil, All-head, All-tail, All-get_or, All-weaker}
-use Rattle.values.specs.Datum.{Datum, null, items_of}
+use Rattle.values.specs.Datum.{Datum, items_of, null}
 use Rattle.values.specs.Layouts.{Holds, HoldsEach}
 use Rattle.values.specs.Rose.{Rose, Roses}
 use Rattle.values.specs.Logical.{NamedType}

@@ -5,7 +5,7 @@ use Rattle.std.proofs.lemmas.List.{length-map}
 use Rattle.values.specs.Rose.{Rose, Roses, none, more, kids_of}
 use Rattle.arrays.specs.Checked.{CheckedColumn}
 use Rattle.schema_meta.specs.Entry.{Entry}
-use Rattle.schema_meta.specs.FieldLayouts.{layouts_of, layouts_below}
+use Rattle.schema_meta.specs.FieldLayouts.{layouts_below, layouts_of}
 use Rattle.feed.specs.Columns.{layouts_in}
 
 abbrev count : {A : Type 0} → Roses A → ℕ

@@ -43,12 +43,12 @@ use Rattle.schema_meta.specs.Story.{
   after_values,
   at_input_end,
   ends,
-  with_schema,
   nothing_known,
   story,
+  story_by,
   story_of,
   story_step,
-  story_by,
+  with_schema,
 }
 use Rattle.schema_meta.specs.Means.{Means}
 use Rattle.messages.specs.MessageLaw.{Brings, MessageLaw}

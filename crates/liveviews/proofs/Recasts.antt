@@ -22,7 +22,7 @@ use Rattle.liveviews.specs.declared.files.FileFault.{FileFault}
 use Rattle.liveviews.specs.declared.files.FileFault.TheVariants as file
 use Rattle.liveviews.specs.declared.recasting.whole.RecastFault.{RecastFault}
 use Rattle.liveviews.specs.declared.recasting.table.Table.{Table}
-use Rattle.liveviews.specs.Recast.{WritesTable, IsUntouched, Recasts, Stops}
+use Rattle.liveviews.specs.Recast.{IsUntouched, Recasts, Stops, WritesTable}
 
 untouched : (old : Sunk) → IsUntouched old old 0
 untouched old = record { same = refl; none = refl }

@@ -1,6 +1,6 @@
 -- What was shown of a stream, message by message.
 use Rattle.std.proofs.Common.{◌≡◌, inl, inr, ℕ, ◌<◌, ◌≤◌, Option, None, Some, Ok, Err, List, [], ◌++◌, length, drop, All, refl, ap, sym, subst, ◌∙◌, arith, append_assoc, append-nil}
-use Rattle.std.specs.Prelude.{Result, IfErr, OnOk}
+use Rattle.std.specs.Prelude.{IfErr, OnOk, Result}
 use Rattle.std.specs.Option.{IfSome, option_map}
 use Rattle.values.specs.Reading.{FailsWith, Reading, mapped}
 use Rattle.values.specs.declared.faults.StreamFault.{StreamFault}

@@ -34,7 +34,7 @@ use Rattle.std.proofs.Common.{
 }
 use Rattle.std.specs.Option.{IfSome, IsSome, IsSomeAnd, option_map}
 use Rattle.std.proofs.Math.Seq.{drop-append-add, drop-length, take-append-add, take-length}
-use Rattle.std.proofs.lemmas.List.{drop-append-le, get_or_append_left, get_or-append-add, take-append-le}
+use Rattle.std.proofs.lemmas.List.{drop-append-le, get_or-append-add, get_or_append_left, take-append-le}
 use Rattle.values.specs.Datum.{Datum}
 use Rattle.values.specs.Reading.{Reading, FailsWith, ◌>>=◌, one}
 use Rattle.values.specs.Rose.{Rose}
@@ -83,7 +83,7 @@ use Rattle.body_writer.specs.Heavy.{IsHeavy}
 use Rattle.liveviews.specs.Refused.{RefusesBatch}
 use Rattle.liveviews.proofs.Accounts.{after-shows, gave, gives-fault, uses-some}
 use Rattle.liveviews.proofs.Tables.{after-by}
-use Rattle.liveviews.specs.Steps.{AreConsumedSo, Ended, GoesOn, HasHeavyRow, IsOpen, Reached, Refuses, ReadsAs}
+use Rattle.liveviews.specs.Steps.{AreConsumedSo, Ended, GoesOn, HasHeavyRow, IsOpen, Reached, ReadsAs, Refuses}
 use Rattle.liveviews.specs.Taken.{AreAccepted}
 
 -- a fault that stands in a stream

@@ -61,7 +61,7 @@ use Rattle.liveviews.specs.Streams.{
   unread_after,
   written_by,
 }
-use Rattle.liveviews.specs.Taken.{AreFit, AreAccepted, IsAcceptedRow}
+use Rattle.liveviews.specs.Taken.{AreAccepted, AreFit, IsAcceptedRow}
 use Rattle.liveviews.specs.declared.recasting.one_pass.Streaming.{Streaming}
 use Rattle.liveviews.proofs.BatchLemmas.{taken-rows}
 use Rattle.liveviews.proofs.BufferedLemmas.{all-rows, fit-rows}

@@ -24,7 +24,7 @@ use Rattle.clap.specs.declared.error.kind.ErrorKind.TheVariants as kinds
 use Rattle.stream_writer.specs.Sinks.{Sunk}
 use Rattle.values.specs.declared.causes.Cause.{Cause}
 use Rattle.values.specs.declared.causes.Cause.TheVariants as cause
-use Rattle.liveviews.specs.Files.{InspectsFile, RecastsFile, MakesNone}
+use Rattle.liveviews.specs.Files.{InspectsFile, MakesNone, RecastsFile}
 use Rattle.liveviews.specs.declared.files.FileFault.{FileFault}
 use Rattle.liveviews.specs.declared.files.FileFault.TheVariants as file
 use Rattle.liveviews.specs.Check.{ChecksFile, RefusesFile}

@@ -8,7 +8,7 @@ use Rattle.values.specs.declared.causes.Cause.TheVariants as cause
 use Rattle.schema_meta.specs.Entry.{Entry}
 use Rattle.schema_meta.specs.FieldLayouts.{layouts_of}
 use Rattle.schema_meta.specs.Means.{Means}
-use Rattle.schema_meta.specs.Story.{Story, after_rows, ends, at_end_mark, at_input_end, story_of}
+use Rattle.schema_meta.specs.Story.{Story, after_rows, at_end_mark, at_input_end, ends, story_of}
 use Rattle.feed.specs.declared.condition.Condition.TheVariants as condition
 use Rattle.feed.specs.Events.{given}
 use Rattle.feed.specs.Retained.{Retained}

@@ -1,9 +1,9 @@
 -- A loose box and a full slot own what the box owns.
-use mir.Syntax.{impl, tnil, dnil}
+use mir.Syntax.{dnil, impl, tnil}
 use denote.Signature.{Slot, plain}
 use Rattle.std_alloc.proofs.BoxSteps.Form.{Bx}
 use Rattle.std_heap.specs.contracts.Global as Heap
-use Rattle.std_heap.specs.contracts.GlobalAllocator.TheImpl.{ghosts, dict}
+use Rattle.std_heap.specs.contracts.GlobalAllocator.TheImpl.{dict, ghosts}
 use Rattle.std_heap.proofs.Global.TheLaws as heap
 use mathlib.Core.List.{[]}
 use Rattle.lv_c.specs.contracts.held.Held as Held

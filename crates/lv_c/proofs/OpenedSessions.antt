@@ -1,7 +1,7 @@
 -- A session that is opened is kept, or memory was refused for its box.
 use mathlib.Core.Path.{refl}
 use Rattle.std.proofs.Common.{ℕ, List, inl, inr}
-use Rattle.std.specs.Prelude.{Option, None}
+use Rattle.std.specs.Prelude.{None, Option}
 use Rattle.values.specs.declared.causes.Cause.TheVariants as cause
 use Rattle.lv_c.specs.declared.held.Held.{Held}
 use Rattle.lv_c.specs.Behind.{Opens}

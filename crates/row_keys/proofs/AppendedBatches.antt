@@ -31,11 +31,11 @@ use Rattle.std.proofs.Common.{
   arith,
 }
 use Rattle.std.specs.Prelude.{slice_get, nat_lt, if◌then◌else◌}
-use Rattle.std.proofs.lemmas.List.{drop_more, drop_all, length-map}
+use Rattle.std.proofs.lemmas.List.{drop_all, drop_more, length-map}
 use Rattle.std.proofs.lemmas.List.Elements.{All-append, All-get_or}
 use Rattle.std.proofs.lemmas.Bool.{ltb-false}
 use Rattle.std.proofs.lemmas.Option.{none-some}
-use Rattle.values.specs.Datum.{Datum, null, is_null}
+use Rattle.values.specs.Datum.{Datum, is_null, null}
 use Rattle.values.specs.Keys.{datum_of_key}
 use Rattle.values.specs.Logical.{NamedType, tree_of, trees_of}
 use Rattle.values.specs.ColTypes.{IsSingle}
@@ -57,7 +57,7 @@ use Rattle.row_keys.specs.Batches.{AreAlike, HoldsCells, IsAlike, IsBatch, batch
 use Rattle.row_keys.specs.RefusedRows.{RefusesRows, are_many}
 use Rattle.row_keys.specs.KeyColumns.{HoldsKeys, PushesKeys, RefusesKeys, fresh}
 use Rattle.row_keys.specs.Numbers.{Numbered, live_count, numbered}
-use Rattle.row_keys.specs.Slots.{CanRevert, Slot, live, new_slot, reverted, contents_of}
+use Rattle.row_keys.specs.Slots.{CanRevert, Slot, contents_of, live, new_slot, reverted}
 use Rattle.row_keys.specs.Store.{Refuses}
 use Rattle.row_keys.specs.Stored.{AreGiven, AreKeyed, IsRight, IsStored, joined, live_keys}
 use Rattle.row_keys.proofs.LightRows.{none_heavy}

@@ -1,6 +1,6 @@
 -- The keys of a batch of one column.
 use Rattle.std.proofs.Common.{◌≡◌, ℕ, zero, suc, ◌+◌, List, [], ◌∷◌, get_or, length, drop, map, ap, sym, ◌∙◌, arith}
-use Rattle.std.proofs.lemmas.List.{drop_more, drop_all}
+use Rattle.std.proofs.lemmas.List.{drop_all, drop_more}
 use Rattle.values.specs.Datum.{Datum, null}
 use Rattle.schema_meta.specs.Rows.{rows_from}
 use Rattle.view_lang.specs.Edits.{first_cell}

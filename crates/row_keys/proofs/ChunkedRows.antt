@@ -7,7 +7,7 @@ use Rattle.std.proofs.lemmas.Bool.{leb-true, ltb-false, ltb-true}
 use Rattle.std.proofs.lemmas.Bool.Decides.{leb_tells}
 use Rattle.std.proofs.lemmas.List.{length-set, length-take}
 use Rattle.std.proofs.lemmas.List.Elements.{All-nil}
-use Rattle.std.proofs.lemmas.Option.{slice_get_within, get_or_from_slice_get}
+use Rattle.std.proofs.lemmas.Option.{get_or_from_slice_get, slice_get_within}
 use Rattle.values.specs.Datum.{Datum}
 use Rattle.arrays.specs.Checked.{CheckedColumn}
 use Rattle.schema_meta.specs.Rows.{row_at, rows_from}
@@ -48,7 +48,7 @@ use Rattle.row_keys.proofs.ListedItems.{
   listed_take,
   listed_whole,
 }
-use Rattle.row_keys.proofs.RowsOfChunks.{IsInPlace, at_none, at_point, chunk_long, chunks_less, chunks_more, chunks_set, listed_cells, lt_or_le, no_columns, none_past, row_after, row_front, row_here, row_before, row_last, row_other, row_rest, row_within, swept}
+use Rattle.row_keys.proofs.RowsOfChunks.{IsInPlace, at_none, at_point, chunk_long, chunks_less, chunks_more, chunks_set, listed_cells, lt_or_le, no_columns, none_past, row_after, row_before, row_front, row_here, row_last, row_other, row_rest, row_within, swept}
 
 -- the row of a number
 pub stored_at : (cs : List Chunk) (len n : ℕ) → AreChunks 0 cs len → get_or (stored_rows cs len) n [] ≡ row_in cs n

@@ -1,7 +1,7 @@
 -- The numbers of the first live rows, one after another.
 use Rattle.std.proofs.Common.{◌≡◌, ℕ, ◌+◌, ◌<◌, ◌≤◌, true, false, List, [], ◌∷◌, ◌++◌, drop, length, take, get_or, ap, sym, ◌∙◌, arith, length-append}
 use Rattle.std.specs.Map.{keys_of}
-use Rattle.std.proofs.lemmas.List.{take_all, take-append-drop, take-append-le}
+use Rattle.std.proofs.lemmas.List.{take-append-drop, take-append-le, take_all}
 use Rattle.row_keys.specs.Numbered.{numbered}
 use Rattle.row_keys.specs.Slots.{Slot, no_slot}
 use Rattle.row_keys.proofs.ListedNumbers.{Listed, listed_more, listed_none, listed_over, listed_same}

@@ -50,7 +50,7 @@ use Rattle.row_keys.specs.declared.faults.EditFault.TheVariants as fault
 use Rattle.row_keys.specs.Found.{FindsAll, MissesKey}
 use Rattle.row_keys.specs.KeyColumns.{PushesKeys, RefusesKeys, StandAlone, fresh}
 use Rattle.row_keys.specs.Numbers.{AreDistinct, IsAt, IsUnused, Numbered, numbered, turned}
-use Rattle.row_keys.specs.Slots.{CanRetract, Slot, keys_at, live, contents_of}
+use Rattle.row_keys.specs.Slots.{CanRetract, Slot, contents_of, keys_at, live}
 use Rattle.row_keys.specs.Store.{Refuses}
 use Rattle.row_keys.specs.Stored.{AreGiven, AreKeyed, IsStored, joined, live_keys}
 use Rattle.row_keys.proofs.AppendedBatches.{live_keys_are}

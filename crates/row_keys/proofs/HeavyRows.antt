@@ -5,7 +5,7 @@ use Rattle.std.proofs.lemmas.Bool.{le-ltb}
 use Rattle.values.specs.Limits.{max_cell_weight, max_row_weight}
 use Rattle.values.specs.Datum.{Datum, items_of}
 use Rattle.values.specs.Layouts.{row_weight, weight}
-use Rattle.values.specs.Rose.{Roses, none, more}
+use Rattle.values.specs.Rose.{Roses, more, none}
 use Rattle.values.specs.declared.layout.Layout.{Layout}
 use Rattle.schema_meta.specs.Rows.{row_at, rows_from, rows_in}
 use Rattle.body_writer.specs.Heavy.{AreLightCells, AreLightUpTo, HasHeavyCell, HasHeavyRow, IsHeavy, IsLight}

@@ -28,7 +28,7 @@ use Rattle.std.proofs.Common.{
 use Rattle.std.specs.Prelude.{if◌then◌else◌}
 use Rattle.std.proofs.lemmas.List.{drop_all, drop_more}
 use Rattle.std.proofs.lemmas.List.Elements.{All-cons, All-get_or, All-head, All-nil, All-tail}
-use Rattle.values.specs.Datum.{Datum, items_of, is_null, null}
+use Rattle.values.specs.Datum.{Datum, is_null, items_of, null}
 use Rattle.values.specs.Layouts.{Holds, HoldsEach}
 use Rattle.arrays.specs.Checked.{CheckedColumn}
 use Rattle.schema_meta.specs.Rows.{row_at, rows_from}

@@ -42,13 +42,13 @@ use Rattle.row_keys.specs.Slots.{
   CanRevert,
   IsThere,
   Slot,
+  contents_of,
   live,
   marked,
   new_slot,
+  reverted,
   row_of,
   slot,
-  reverted,
-  contents_of,
 }
 use Rattle.row_keys.specs.Stored.{AreKeyed, joined, live_keys}
 use Rattle.row_keys.proofs.KeyFacts.{or_none, or_right, same_exact, same_refl}

@@ -3,7 +3,7 @@ use Rattle.std.proofs.Common.{◌≡◌, false, None, refl, sym}
 use Rattle.std.specs.Prelude.{IsSome}
 use Rattle.std.proofs.lemmas.Option.{none-some}
 use Rattle.values.specs.ColTypes.{IsSingle, layout_of}
-use Rattle.values.specs.Datum.{Datum, null, truth, whole, text, bytes, list, structure}
+use Rattle.values.specs.Datum.{Datum, bytes, list, null, structure, text, truth, whole}
 use Rattle.values.specs.Keys.{datum_of_key, key_of}
 use Rattle.values.specs.Layouts.{Holds}
 use Rattle.values.specs.Logical.{NamedType, tree_of}

@@ -35,10 +35,10 @@ use Rattle.std.proofs.Common.{
 }
 use Rattle.std.specs.Prelude.{Option, if◌then◌else◌, IsSome}
 use Rattle.std.proofs.Math.Seq.{take-suc}
-use Rattle.std.proofs.lemmas.List.{drop_more, drop_all, map-append}
+use Rattle.std.proofs.lemmas.List.{drop_all, drop_more, map-append}
 use Rattle.std.proofs.lemmas.List.Elements.{All-get_or}
 use Rattle.values.specs.CellViews.{shallow}
-use Rattle.values.specs.Datum.{Datum, null, is_null}
+use Rattle.values.specs.Datum.{Datum, is_null, null}
 use Rattle.values.specs.Layouts.{Holds}
 use Rattle.values.specs.Rose.{Rose}
 use Rattle.values.specs.declared.layout.Layout.{Layout}

@@ -24,7 +24,7 @@ use Rattle.std.proofs.Common.{
 use Rattle.std.proofs.lemmas.List.{drop_all}
 use Rattle.std.proofs.lemmas.List.Elements.{All-head}
 use Rattle.values.specs.Datum.{Datum, null}
-use Rattle.values.specs.Rose.{Rose, none, more}
+use Rattle.values.specs.Rose.{Rose, more, none}
 use Rattle.values.specs.declared.layout.Layout.{Layout}
 use Rattle.arrays.specs.Checked.{CheckedColumn}
 use Rattle.schema_meta.specs.Rows.{rows_from}

@@ -36,6 +36,7 @@ use Rattle.row_keys.specs.Slots.{
   HasKey,
   IsThere,
   Slot,
+  contents_of,
   keys_at,
   live,
   marked,
@@ -43,7 +44,6 @@ use Rattle.row_keys.specs.Slots.{
   retracted,
   row_of,
   slot,
-  contents_of,
 }
 use Rattle.row_keys.proofs.KeyFacts.{neither, or_none, same_sym}
 use Rattle.row_keys.proofs.Places.{some_same}

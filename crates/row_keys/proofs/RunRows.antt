@@ -4,7 +4,7 @@ use Rattle.std.specs.Prelude.{if◌then◌else◌, map, slice_get}
 use Rattle.std.proofs.lemmas.List.{get_or-drop, map-append, take_all, take_more}
 use Rattle.std.proofs.lemmas.List.Concat.{flat_map-append}
 use Rattle.std.proofs.lemmas.List.Elements.{All-append, All-cons, All-nil}
-use Rattle.std.proofs.lemmas.Option.{none-some, get_or_from_slice_get}
+use Rattle.std.proofs.lemmas.Option.{get_or_from_slice_get, none-some}
 use Rattle.values.specs.Datum.{Datum}
 use Rattle.arrays.specs.Checked.{CheckedColumn}
 use Rattle.schema_meta.specs.Rows.{row_at, rows_in}

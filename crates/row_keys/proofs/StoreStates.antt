@@ -6,7 +6,7 @@ use Rattle.std.proofs.lemmas.List.Elements.{All-cons, All-get_or, All-head, All-
 use Rattle.values.specs.Datum.{Datum, items_of}
 use Rattle.values.specs.Keys.{datum_of_key}
 use Rattle.values.specs.Layouts.{HoldsEach}
-use Rattle.values.specs.Rose.{Roses, none, more}
+use Rattle.values.specs.Rose.{Roses, more, none}
 use Rattle.values.specs.declared.layout.Layout.{Layout}
 use Rattle.values.specs.declared.key.Key.{Key}
 use Rattle.view_lang.specs.Config.{Table}

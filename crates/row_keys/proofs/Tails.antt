@@ -18,7 +18,7 @@ use Rattle.row_keys.proofs.ChunkedRows.{chunk_read, shortened_chunks, shortened_
 use Rattle.row_keys.proofs.RowsOfChunks.{lt_or_le, row_after, row_before, row_rest, row_within}
 use Rattle.row_keys.proofs.Places.{some_same}
 use Rattle.row_keys.proofs.ListedItems.{listed_same}
-use Rattle.row_keys.proofs.MergedChunks.{HasWidth, Row, as_many_left, drop_none, front_chunks, length_dropped, look, look_at, look_there, made_left, middle, made_long, no_layouts, rising_left, row_left, set_end, split_chunks, take_none, wide_left, wide_rows}
+use Rattle.row_keys.proofs.MergedChunks.{HasWidth, Row, as_many_left, drop_none, front_chunks, length_dropped, look, look_at, look_there, made_left, made_long, middle, no_layouts, rising_left, row_left, set_end, split_chunks, take_none, wide_left, wide_rows}
 use Rattle.row_keys.proofs.RowPlaces.{rising_at}
 
 rising_dropped : (from end : ℕ) (ns : List ℕ) (i : ℕ) → AreRising from ns end → i < length ns

@@ -28,7 +28,7 @@ use Rattle.std.proofs.Common.{
   arith,
   true≢false,
 }
-use Rattle.std.proofs.lemmas.List.{drop_more, drop_all}
+use Rattle.std.proofs.lemmas.List.{drop_all, drop_more}
 use Rattle.values.specs.Datum.{Datum, is_null}
 use Rattle.values.specs.Keys.{datum_of_key}
 use Rattle.values.specs.declared.key.Key.{Key}
@@ -57,8 +57,8 @@ use Rattle.row_keys.proofs.JoinedNumbers.{
   distinct_repeated,
   joined_at,
   joined_turned,
-  keys_live,
   keyed_turned,
+  keys_live,
 }
 use Rattle.row_keys.proofs.KeyFacts.{same_refl}
 use Rattle.row_keys.proofs.Places.{some_same}

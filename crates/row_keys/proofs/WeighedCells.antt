@@ -10,14 +10,14 @@ use Rattle.values.specs.Rose.{Rose, kids_of, node}
 use Rattle.values.specs.Weights.{saturated}
 use Rattle.values.specs.declared.layout.Layout.{Layout}
 use Rattle.values.specs.declared.layout.Layout.TheVariants.{
+  Binary,
   Bool as Booleans,
-  Int,
   Decimal,
   FixedSizeBinary,
-  Utf8,
-  Binary,
+  Int,
   List as Listed,
   Struct,
+  Utf8,
 }
 use Rattle.arrays.specs.Checked.{CheckedColumn}
 use Rattle.schema_meta.specs.Rows.{row_at}

@@ -1,6 +1,6 @@
 -- How the keys of a batch are numbered, or why they aren't.
 use Rattle.std.specs.Prelude.{◌≡◌, ℕ, Bool, true, false, ◌||◌, IsSome, List, [], ◌∷◌, ◌++◌, drop, get_or, map}
-use Rattle.values.specs.Datum.{Datum, null, is_null}
+use Rattle.values.specs.Datum.{Datum, is_null, null}
 use Rattle.values.specs.Keys.{datum_of_key, key_of}
 use Rattle.values.specs.Layouts.{Holds}
 use Rattle.values.specs.Rose.{Rose}

@@ -1,6 +1,6 @@
 -- How the keys of a batch are put: each row takes the place of the live row with its key.
 use Rattle.std.specs.Prelude.{◌≡◌, ◌⊎◌, ℕ, ◌<◌, ◌≤◌, true, false, List, [], ◌∷◌, ◌++◌, drop, get_or}
-use Rattle.values.specs.Datum.{Datum, null, is_null}
+use Rattle.values.specs.Datum.{Datum, is_null, null}
 use Rattle.values.specs.Keys.{datum_of_key}
 use Rattle.values.specs.declared.key.Key.{Key}
 use Rattle.view_lang.specs.Causes.{has_null}

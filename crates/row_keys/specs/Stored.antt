@@ -1,6 +1,6 @@
 -- How rows are stored: their cells, and the keys under which they are numbered.
 use Rattle.std.specs.Prelude.{◌≡◌, ◌⊎◌, ℕ, ◌≤◌, true, false, All, List, [], ◌∷◌, if◌then◌else◌}
-use Rattle.values.specs.Datum.{Datum, items_of, is_null}
+use Rattle.values.specs.Datum.{Datum, is_null, items_of}
 use Rattle.values.specs.Keys.{datum_of_key}
 use Rattle.values.specs.Layouts.{HoldsEach}
 use Rattle.values.specs.declared.key.Key.{Key}

@@ -22,7 +22,7 @@ ghost use Rattle.std.specs.Prelude.{
 ghost use Rattle.std.specs.List.{IsDistinct};
 ghost use Rattle.std.specs.List.Sorted.{IsStrictlyIncreasing};
 ghost use Rattle.std.specs.Ordering.{eq_by_cmp, nat_cmp};
-ghost use Rattle.values.specs.Datum.{null, is_null as is_null_by};
+ghost use Rattle.values.specs.Datum.{is_null as is_null_by, null};
 ghost use Rattle.values.specs.Keys.{datum_of_key};
 ghost use Rattle.values.specs.declared.key.Key.{Key};
 ghost use Rattle.view_lang.specs.Causes.{has_null};

@@ -40,15 +40,16 @@ ghost use Rattle.row_keys.specs.Numbered.{numbered};
 ghost use Rattle.row_keys.specs.Parts.{AreStoreParts, store_with};
 ghost use Rattle.row_keys.specs.Locations.{row_if};
 ghost use Rattle.row_keys.specs.Slots.{
+  AllOut,
   CanPutBack,
   CanRetract,
-  CanShowPut,
   CanRevert,
+  CanShowPut,
   CanUndoPut,
-  AllOut,
   HasKey,
   IsLiveAt,
   IsOut,
+  contents_of,
   emptied,
   keys_at,
   last_numbers,
@@ -61,9 +62,8 @@ ghost use Rattle.row_keys.specs.Slots.{
   put_undone,
   released,
   retracted,
-  row_of,
   reverted,
-  contents_of,
+  row_of,
 };
 ghost use Rattle.row_keys.specs.Store.{
   IsAbsent,

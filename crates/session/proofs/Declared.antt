@@ -37,7 +37,7 @@ use Rattle.values.specs.Logical.{NamedType}
 use Rattle.values.specs.contracts.col_type.ColTypePartialEq.TheImpl as types
 use Rattle.values.specs.declared.faults.StreamFault.TheVariants as fault
 use Rattle.values.specs.Reading.{Reading, ◌>>=◌, second, refused_if, one}
-use Rattle.values.proofs.Readings.{both_Ok, bind_Ok, mapped_Ok}
+use Rattle.values.proofs.Readings.{bind_Ok, both_Ok, mapped_Ok}
 use Rattle.values.proofs.Equality.{types-exact}
 use Rattle.dictionaries.specs.Batches.{DictionaryBatch}
 use Rattle.schema_meta.specs.declared.header.MessageKind.{MessageKind}

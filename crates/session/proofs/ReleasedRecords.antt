@@ -32,8 +32,8 @@ use Rattle.row_keys.proofs.Emptied.{
   Spares,
   contents_emptied,
   length_emptied,
-  off_emptied,
   numbered_emptied,
+  off_emptied,
 }
 use Rattle.upkeep.specs.Stores.{Rows, rows_at, world_of}
 use Rattle.upkeep.specs.StoreLaws.{length_placed, rows_kept}

@@ -1,8 +1,8 @@
 -- How a feed stands while a run is replayed, and which causes it answers.
 use Rattle.std.proofs.Common.{◌≡◌, ◌⊎◌, inl, inr, ℕ, zero, suc, ◌<◌, Bool, true, false, Bor, Option, None, Some, Result, Ok, Err, List, [], ◌∷◌, ◌++◌, length, drop, refl, ap, sym, subst, ◌∙◌, arith, append-nil, append_assoc}
 use Rattle.std.specs.Prelude.{◌==◌, slice_get, slice_set}
-use Rattle.std.proofs.lemmas.Bool.{eqb-true, eqb-false}
-use Rattle.std.proofs.lemmas.Option.{same_Some, none-some}
+use Rattle.std.proofs.lemmas.Bool.{eqb-false, eqb-true}
+use Rattle.std.proofs.lemmas.Option.{none-some, same_Some}
 use Rattle.std.specs.Io.KnownBytes.{Appends}
 use Rattle.values.specs.Reading.{FailsWith, IsValid, Reading}
 use Rattle.values.specs.StreamCauses.{cause_of as cause_named}
@@ -15,15 +15,15 @@ use Rattle.feed.specs.Retained.{stream_in}
 use Rattle.feed.specs.Events.{Event as Message, Given}
 use Rattle.feed.specs.Transcript.{transcript}
 use Rattle.feed.specs.States.{
-  finishing_when,
-  retained_in,
   FeedState,
   Finishes,
   Gives,
   after_finish,
   after_push,
+  finishing_when,
   gives,
   is_broken,
+  retained_in,
 }
 use Rattle.view_lang.specs.Config.{Config, Table, tables_of}
 use Rattle.view_lang.specs.Edits.{Edit}
@@ -31,7 +31,7 @@ use Rattle.view_lang.specs.UnfitCauses.{named}
 use Rattle.view_lang.specs.declared.config.Role.{Role}
 use Rattle.view_lang.specs.declared.unfit.Unfit.{Unfit}
 use Rattle.view_lang.specs.declared.unfit.Unfit.TheVariants as unfit
-use Rattle.session.specs.Steps.{Channel, Past, State, end_answer, edit_answer, message_answer, moved, place_in, push_channel, push_past, undone, undone_by, unfit_in, view_in, with_feed}
+use Rattle.session.specs.Steps.{Channel, Past, State, edit_answer, end_answer, message_answer, moved, place_in, push_channel, push_past, undone, undone_by, unfit_in, view_in, with_feed}
 use Rattle.session.specs.declared.calls.Event.{Event as Kind}
 use Rattle.session.specs.declared.calls.Reply.{Reply}
 use Rattle.session.specs.declared.calls.Step.{Step}

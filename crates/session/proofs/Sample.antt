@@ -1,6 +1,6 @@
 -- The sample's answers, by computation.
 use Rattle.std.proofs.Common.{◌≡◌, ℕ, ◌<◌, ◌≤◌, true, All, List, [], ◌∷◌, length, Some, Ok, Err, arith, refl, lit≤, lit<}
-use Rattle.std.specs.Str.{is_utf8, chars}
+use Rattle.std.specs.Str.{chars, is_utf8}
 use Rattle.std.proofs.Math.Utf8.{encode}
 use Rattle.std.proofs.lemmas.List.Elements.{All-cons, All-nil}
 use Rattle.values.specs.Coded.{AreCoded, IsTextColumn}

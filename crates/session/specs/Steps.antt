@@ -30,7 +30,7 @@ use Rattle.schema_meta.specs.Rows.{rows_in}
 use Rattle.schema_meta.specs.Story.{story_of}
 use Rattle.stream_writer.specs.Sinks.{Sunk, Writes}
 use Rattle.stream_writer.specs.Stream.{coded_canon}
-use Rattle.feed.specs.Events.{Event as Message, batch, dictionary, ended, schema, Given}
+use Rattle.feed.specs.Events.{Event as Message, Given, batch, dictionary, ended, schema}
 use Rattle.feed.specs.States.{FeedState, Finishes, Gives, after_finish, after_push, fresh, is_broken}
 use Rattle.view_lang.specs.Causes.{cause_in}
 use Rattle.view_lang.specs.Config.{Config, FeedConfig, Table, View, tables_of}

@@ -29,10 +29,10 @@ use Rattle.flatbuf.specs.Tree.{structs, table}
 use Rattle.flatbuf.specs.Written.{object_end, table_end, items_place, Fits, IsWritable}
 use Rattle.schema_meta.specs.declared.header.MessageKind.TheVariants as kind
 use Rattle.schema_meta.specs.MessageTree.{message_slots}
-use Rattle.schema_meta.proofs.SchemaFits.{items_place-le, table_place-le, number-fits}
+use Rattle.schema_meta.proofs.SchemaFits.{items_place-le, number-fits, table_place-le}
 use Rattle.array_layout.specs.declared.array.FieldNode.{FieldNode}
 use Rattle.array_layout.specs.declared.array.BufferRange.{BufferRange}
-use Rattle.stream_writer.specs.Batch.{node_bytes, range_bytes, batch_slots}
+use Rattle.stream_writer.specs.Batch.{batch_slots, node_bytes, range_bytes}
 use Rattle.stream_writer.specs.DictionaryBatch.{dictionary_slots}
 
 pub node_bytes-length : (ns : List FieldNode) → length (node_bytes ns) ≡ 16 * length ns

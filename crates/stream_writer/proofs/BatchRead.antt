@@ -30,16 +30,16 @@ use Rattle.std.proofs.Common.{
 }
 use Rattle.std.specs.Prelude.{pos, replicate}
 use Rattle.std.specs.Int.{w64}
-use Rattle.std.proofs.lemmas.Bool.{le-leb, eq-eqb}
+use Rattle.std.proofs.lemmas.Bool.{eq-eqb, le-leb}
 use Rattle.std.proofs.lemmas.Int.{to_z_pos}
 use Rattle.std.proofs.lemmas.List.{drop-drop, drop_at}
 use Rattle.byteorder.specs.Endian.{little_bytes, little_number, low_bytes}
-use Rattle.byteorder.specs.Numbers.{little_number-reads_back, length-bytes_low_first}
+use Rattle.byteorder.specs.Numbers.{length-bytes_low_first, little_number-reads_back}
 use Rattle.flatbuf.specs.Tree.{number}
 use Rattle.flatbuf.specs.Layout.{Table, slot_of, subtable_of, table_in}
 use Rattle.flatbuf.specs.Held.{Held, NodeHeld}
 use Rattle.flatbuf.proofs.ReaderAnswers.{number-read, signed-read, structs-read, subtable-read}
-use Rattle.values.specs.Limits.{max_body_size, max_batch_length, max_dictionary_values, max_node_length}
+use Rattle.values.specs.Limits.{max_batch_length, max_body_size, max_dictionary_values, max_node_length}
 use Rattle.field_types.specs.Reads.{bool_of}
 use Rattle.values.specs.Reading.{each}
 use Rattle.values.specs.Rose.{Rose, Roses, roses_size}
@@ -93,7 +93,7 @@ use Rattle.stream_writer.specs.DictionaryLaw.{dictionary_head}
 use Rattle.stream_writer.specs.Stream.{trees}
 use Rattle.stream_writer.specs.Coding.{value_rows}
 use Rattle.stream_writer.specs.DictionaryBatch.{dictionary_metadata, dictionary_slots, text_layouts, values_body}
-use Rattle.stream_writer.proofs.BatchFits.{node_bytes-length, range_bytes-length, batch-writable, dictionary-writable}
+use Rattle.stream_writer.proofs.BatchFits.{batch-writable, dictionary-writable, node_bytes-length, range_bytes-length}
 use Rattle.stream_writer.proofs.Counts.{
   body_nodes-length,
   body_buffers-length,
@@ -101,7 +101,7 @@ use Rattle.stream_writer.proofs.Counts.{
   body_nodes-few,
   body_ranges-few,
 }
-use Rattle.stream_writer.proofs.Lengths.{IsSmall, AreSmall, body-small, lengths-fit}
+use Rattle.stream_writer.proofs.Lengths.{AreSmall, IsSmall, body-small, lengths-fit}
 
 -- a pair of numbers
 

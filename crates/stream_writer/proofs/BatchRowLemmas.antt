@@ -34,13 +34,13 @@ use Rattle.std.specs.Prelude.{min}
 use Rattle.std.proofs.lemmas.Bool.{cases_lt}
 use Rattle.std.proofs.lemmas.List.{drop_more, drop_all, take_all, drop-drop, length-map}
 use Rattle.std.proofs.lemmas.List.Elements.{
-  All-get_or,
-  All-head,
-  All-tail,
-  All-drop,
   All-append,
   All-cons,
+  All-drop,
+  All-get_or,
+  All-head,
   All-nil,
+  All-tail,
   All-weaker,
 }
 use Rattle.std.specs.List.{flat_map}
@@ -55,10 +55,10 @@ use Rattle.schema_meta.specs.Rows.{rows_from}
 use Rattle.body_writer.specs.declared.from_columns.batch.Batch.{Batch}
 use Rattle.body_writer.specs.declared.from_columns.batch.RowRange.{RowRange}
 use Rattle.body_writer.specs.RowRanges.{batch_rows, rows_of, range_rows, ranges_rows, cells_in, IsSized}
-use Rattle.stream_writer.specs.BatchRows.{max_light_row, AreLightRows, AreWeighed, IsInFirst}
+use Rattle.stream_writer.specs.BatchRows.{AreLightRows, AreWeighed, IsInFirst, max_light_row}
 use Rattle.stream_writer.specs.Weights.{weights_of}
 use Rattle.stream_writer.proofs.FittingLemmas.{weights-left}
-use Rattle.stream_writer.specs.Stream.{beginning, batch_len, trees}
+use Rattle.stream_writer.specs.Stream.{batch_len, beginning, trees}
 use Rattle.stream_writer.proofs.Cut.{beginning-light}
 
 -- where rows are light, a batch has as many as it may

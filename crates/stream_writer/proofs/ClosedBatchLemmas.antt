@@ -32,7 +32,7 @@ use Rattle.std.specs.Prelude.{All, Bool, true, false, if◌then◌else◌}
 use Rattle.std.specs.List.{flat_map}
 use Rattle.std.proofs.lemmas.Bool.{cases_lt}
 use Rattle.std.proofs.lemmas.Bool.Decides.{nat_tests}
-use Rattle.std.proofs.lemmas.List.{take-append-drop, take-append-le, drop-append-le, take_all}
+use Rattle.std.proofs.lemmas.List.{drop-append-le, take-append-drop, take-append-le, take_all}
 use Rattle.std.proofs.lemmas.List.Elements.{All-append, All-drop}
 use Rattle.values.specs.Limits.{max_batch_rows, max_batch_weight}
 use Rattle.values.specs.Datum.{Datum}
@@ -40,7 +40,7 @@ use Rattle.values.specs.Rose.{Rose, Roses}
 use Rattle.values.specs.declared.layout.Layout.{Layout}
 use Rattle.values.specs.Logical.{NamedType}
 use Rattle.body_writer.specs.Batch.{row_weight, rows_weight}
-use Rattle.stream_writer.specs.Stream.{batch_messages, beginning, batch_len, batches, trees}
+use Rattle.stream_writer.specs.Stream.{batch_len, batch_messages, batches, beginning, trees}
 use Rattle.stream_writer.specs.Table.{IsRow}
 use Rattle.stream_writer.specs.ClosedBatches.{IsClosed, is_open, closed, open_rows, IsSettled, ClosedLaw}
 use Rattle.stream_writer.proofs.Cut.{

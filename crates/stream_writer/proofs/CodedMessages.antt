@@ -2,7 +2,7 @@
 use Rattle.std.proofs.Common.{◌≡◌, ℕ, suc, List, [], ◌∷◌, refl, ap, ◌∙◌, arith}
 use Rattle.std.specs.Prelude.{map}
 use Rattle.values.specs.Datum.{Datum}
-use Rattle.values.specs.Rose.{Roses, node, none, more}
+use Rattle.values.specs.Rose.{Roses, more, node, none}
 use Rattle.values.specs.declared.layout.Layout.{Layout}
 use Rattle.schema_meta.specs.SchemaLaw.{coded_fields}
 use Rattle.schema_meta.proofs.CodedFields.{coded-type}

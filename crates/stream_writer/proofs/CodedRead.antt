@@ -69,8 +69,8 @@ use Rattle.body_writer.specs.Law.{AreRead}
 use Rattle.body_writer.specs.Batch.{IsBatch, body_bytes, body_nodes, body_ranges, row_cells}
 use Rattle.body_writer.proofs.Cells.{part-listed}
 use Rattle.stream_writer.specs.Coding.{
-  AreTextsIn,
   AreTextCells,
+  AreTextsIn,
   IsTextAt,
   IsTextCell,
   cells_at,

@@ -1,15 +1,15 @@
 -- How many nodes and buffers the body of a batch has.
 use Rattle.std.proofs.Common.{◌≡◌, ℕ, suc, ◌+◌, ◌*◌, ◌≤◌, List, [], ◌∷◌, length, refl, ap, ◌∙◌, arith, length-append}
 use Rattle.values.specs.Limits.{max_fields}
-use Rattle.values.specs.Rose.{Roses, none, more, roses_size}
+use Rattle.values.specs.Rose.{Roses, more, none, roses_size}
 use Rattle.values.specs.Datum.{Datum}
 use Rattle.values.specs.declared.layout.Layout.{Layout}
 use Rattle.values.specs.declared.layout.Layout.TheVariants.{Struct}
 use Rattle.array_layout.specs.Placing.{ranges_below}
-use Rattle.body_writer.specs.Columns.{child_cells, nodes, nodes_below, buffers, buffers_below}
+use Rattle.body_writer.specs.Columns.{buffers, buffers_below, child_cells, nodes, nodes_below}
 use Rattle.body_writer.specs.Body.{padded, ranges_from}
 use Rattle.body_writer.specs.Batch.{row_cells, body_nodes, body_buffers, body_ranges, IsBatch}
-use Rattle.body_writer.proofs.ColumnRead.{nodes-count, buffers-count}
+use Rattle.body_writer.proofs.ColumnRead.{buffers-count, nodes-count}
 use Rattle.body_writer.proofs.Rows.{few-below}
 
 nodes_below-length : (l : Layout) (j : ℕ) (ts : Roses Layout) (cs : List Datum)

@@ -28,24 +28,24 @@ use Rattle.std.proofs.Common.{
   inr,
 }
 use Rattle.std.specs.Prelude.{All, Vec, nat_le, if◌then◌else◌}
-use Rattle.std.specs.List.{take-map, drop-map}
+use Rattle.std.specs.List.{drop-map, take-map}
 use Rattle.std.specs.declared.alloc.Global.{Global}
 use Rattle.std.proofs.lemmas.Bool.{cases_lt}
 use Rattle.std.proofs.lemmas.Bool.Decides.{nat_tests}
-use Rattle.std.proofs.lemmas.List.{drop_more, drop_all, get_or-map, length-map, length-take, take_all}
-use Rattle.std.proofs.lemmas.List.Elements.{All-head, All-take, All-drop, All-weaker}
-use Rattle.values.specs.Limits.{max_row_weight, max_batch_rows, max_batch_weight}
+use Rattle.std.proofs.lemmas.List.{drop_all, drop_more, get_or-map, length-map, length-take, take_all}
+use Rattle.std.proofs.lemmas.List.Elements.{All-drop, All-head, All-take, All-weaker}
+use Rattle.values.specs.Limits.{max_batch_rows, max_batch_weight, max_row_weight}
 use Rattle.values.specs.Datum.{Datum, items_of}
 use Rattle.values.specs.Layouts.{AreLayouts, HoldsEach}
 use Rattle.values.specs.Rose.{Rose, node, Roses, none, more, kids_of, rose_size, roses_size}
 use Rattle.values.specs.declared.layout.Layout.{Layout}
 use Rattle.values.specs.Logical.{NamedType, tree_of, trees_of}
 use Rattle.schema_meta.specs.SchemaTree.{AreColumns}
-use Rattle.body_writer.specs.Batch.{row_weight, rows_weight, IsBatch}
+use Rattle.body_writer.specs.Batch.{IsBatch, row_weight, rows_weight}
 use Rattle.values.specs.Weights.{saturated}
 use Rattle.body_writer.proofs.Rows.{cells_in}
 use Rattle.values.proofs.WeightLemmas.{saturated-exact}
-use Rattle.stream_writer.specs.Stream.{batch_messages, beginning, batch_len, batches, trees}
+use Rattle.stream_writer.specs.Stream.{batch_len, batch_messages, batches, beginning, trees}
 use Rattle.stream_writer.specs.Table.{IsRow}
 
 pub cells-at : (rows : List (Vec Datum Global)) (i : ℕ) (row : Vec Datum Global) → i < length rows

@@ -29,7 +29,7 @@ use Rattle.std.proofs.Common.{
 use Rattle.std.specs.Prelude.{All}
 use Rattle.std.specs.List.{flat_map}
 use Rattle.std.proofs.lemmas.Bool.{cases_lt}
-use Rattle.std.proofs.lemmas.List.{take-append-drop, take-take, length-take}
+use Rattle.std.proofs.lemmas.List.{length-take, take-append-drop, take-take}
 use Rattle.std.proofs.Math.Seq.{take-add}
 use Rattle.std.proofs.lemmas.List.Elements.{All-drop}
 use Rattle.values.specs.Limits.{max_batch_rows, max_batch_weight}
@@ -40,7 +40,7 @@ use Rattle.values.specs.declared.layout.Layout.{Layout}
 use Rattle.values.specs.Logical.{NamedType}
 use Rattle.schema_meta.specs.SchemaTree.{AreColumns}
 use Rattle.body_writer.specs.Batch.{row_weight, rows_weight}
-use Rattle.stream_writer.specs.Stream.{batch_messages, beginning, batch_len, batches, trees}
+use Rattle.stream_writer.specs.Stream.{batch_len, batch_messages, batches, beginning, trees}
 use Rattle.stream_writer.specs.Table.{IsRow}
 use Rattle.stream_writer.specs.CutLaw.{cut, IsFull, AreBatches, CutLaw}
 use Rattle.stream_writer.proofs.Cut.{taken, beginning-heavy, batch_len-within, batch-some, batch-sound}

@@ -28,7 +28,7 @@ use Rattle.std.specs.List.{list_any, position_or_len}
 use Rattle.std.specs.Str.{bytes_eq}
 use Rattle.std.proofs.lemmas.List.Folds.{list_any-append}
 use Rattle.std.proofs.lemmas.Slice.Eq.{bytes_eq-Decides}
-use Rattle.values.specs.Datum.{Datum, null, truth, whole, text, bytes, list, structure}
+use Rattle.values.specs.Datum.{Datum, bytes, list, null, structure, text, truth, whole}
 use Rattle.values.specs.Reading.{Reading, ◌>>=◌, both, cons, each}
 use Rattle.values.specs.Rose.{Rose, node, none}
 use Rattle.array_layout.specs.declared.array.FieldNode.{FieldNode}

@@ -21,12 +21,12 @@ use Rattle.std.proofs.Common.{
   append_assoc,
   append-nil,
 }
-use Rattle.std.specs.Prelude.{map, Vec}
+use Rattle.std.specs.Prelude.{Vec, map}
 use Rattle.std.specs.declared.alloc.Global.{Global}
 use Rattle.std.proofs.lemmas.List.{drop_more, map-append}
 use Rattle.values.specs.Datum.{Datum, text}
 use Rattle.values.specs.Layouts.{Holds, IsLayout}
-use Rattle.values.specs.Rose.{Rose, Roses, node, none, more}
+use Rattle.values.specs.Rose.{Rose, Roses, more, node, none}
 use Rattle.values.specs.Weights.{weights}
 use Rattle.values.specs.declared.layout.Layout.{Layout}
 use Rattle.values.specs.declared.layout.Layout.TheVariants.{Struct}

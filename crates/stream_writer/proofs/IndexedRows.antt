@@ -31,7 +31,7 @@ use Rattle.std.proofs.lemmas.List.{length-map}
 use Rattle.std.proofs.lemmas.List.Elements.{All-cons, All-head, All-nil, All-tail}
 use Rattle.std.proofs.lemmas.List.Sums.{prefix_len-le-length}
 use Rattle.values.specs.Datum.{Datum, null, truth, whole, text, bytes, list, structure, items_of}
-use Rattle.values.specs.Layouts.{AreLayouts, Holds, HoldsEach, IsLayout, IsText, weight, row_weight as weight_beside}
+use Rattle.values.specs.Layouts.{AreLayouts, Holds, HoldsEach, IsLayout, IsText, row_weight as weight_beside, weight}
 use Rattle.values.specs.Rose.{Rose, node, Roses, none, more, roses_size}
 use Rattle.values.specs.declared.layout.Layout.{Layout}
 use Rattle.body_writer.specs.Batch.{IsBatch, rows_weight}

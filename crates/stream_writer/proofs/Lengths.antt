@@ -24,28 +24,28 @@ use Rattle.std.proofs.Common.{
   arith,
 }
 use Rattle.std.specs.Prelude.{pos, if◌then◌else◌}
-use Rattle.std.proofs.lemmas.Bool.{le-leb, eq-eqb}
+use Rattle.std.proofs.lemmas.Bool.{eq-eqb, le-leb}
 use Rattle.std.proofs.lemmas.List.{length-map}
 use Rattle.values.specs.Limits.{max_node_length}
 use Rattle.values.specs.Rose.{Rose, node, Roses, none, more, rose_size}
 use Rattle.values.specs.Datum.{Datum}
 use Rattle.values.specs.declared.layout.Layout.{Layout}
 use Rattle.values.specs.declared.layout.Layout.TheVariants.{
+  Binary,
   Bool as Booleans,
-  Int,
   Decimal,
   FixedSizeBinary,
-  Utf8,
-  Binary,
+  Int,
   List as Listed,
   Struct,
+  Utf8,
 }
-use Rattle.values.specs.Layouts.{IsLayout, AreLayouts, Holds}
+use Rattle.values.specs.Layouts.{AreLayouts, Holds, IsLayout}
 use Rattle.array_layout.specs.declared.array.FieldNode.{FieldNode}
 use Rattle.array_layout.specs.Placing.{node_at}
 use Rattle.schema_meta.specs.Batch.{least, is_long, are_long, columns_fit, lengths_fit}
 use Rattle.body_writer.specs.Slots.{is_valid, null_count, part}
-use Rattle.body_writer.specs.Columns.{child_cells, own_node, nodes, nodes_below}
+use Rattle.body_writer.specs.Columns.{child_cells, nodes, nodes_below, own_node}
 use Rattle.body_writer.specs.Law.{AreNodes}
 use Rattle.values.specs.Weights.{weights}
 use Rattle.body_writer.specs.Batch.{row_cell, row_cells, body_nodes, IsBatch}

@@ -31,7 +31,7 @@ use Rattle.std.specs.Str.{bytes_eq}
 use Rattle.std.proofs.lemmas.List.{drop_more, map-append}
 use denote.Ref.{Bor}
 use Rattle.indexmap.specs.IndexSet.{insert_key}
-use Rattle.values.specs.Datum.{Datum, null, truth, whole, text, bytes, list, structure}
+use Rattle.values.specs.Datum.{Datum, bytes, list, null, structure, text, truth, whole}
 use Rattle.body_writer.specs.Slots.{cell_of, cells_of}
 use Rattle.stream_writer.specs.Coding.{IsTextCell, add_text, index_in, texts_after}
 use Rattle.stream_writer.specs.Texts.{text_of, texts_in}

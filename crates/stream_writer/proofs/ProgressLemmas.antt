@@ -14,7 +14,7 @@ use Rattle.values.specs.Logical.{NamedType}
 use Rattle.stream_writer.specs.ClosedBatches.{IsClosed}
 use Rattle.stream_writer.specs.Progress.{HasPut, IsHeld, StopsIn, last_rows}
 use Rattle.stream_writer.specs.Sinks.{Sunk, Writes}
-use Rattle.stream_writer.specs.Stream.{batch_messages, batch_len, batches, coded_canon, end_mark, trees}
+use Rattle.stream_writer.specs.Stream.{batch_len, batch_messages, batches, coded_canon, end_mark, trees}
 use Rattle.stream_writer.specs.Table.{IsRow, IsTable}
 use Rattle.stream_writer.specs.WrittenSoFar.{WrittenSoFar}
 use Rattle.stream_writer.specs.declared.faults.WriteFault.{WriteFault}

@@ -6,18 +6,18 @@ use Rattle.std.proofs.lemmas.List.{drop_all, drop_more}
 use Rattle.values.specs.Datum.{Datum, null, truth, whole, text, bytes, list, structure, items_of}
 use Rattle.values.specs.Layouts.{Holds, HoldsEach, null_weight, weight}
 use Rattle.values.specs.Limits.{max_cell_weight}
-use Rattle.values.specs.Rose.{Rose, node, Roses, kids_of}
+use Rattle.values.specs.Rose.{Rose, Roses, kids_of, node}
 use Rattle.values.specs.Weights.{saturated}
 use Rattle.values.specs.declared.layout.Layout.{Layout}
 use Rattle.values.specs.declared.layout.Layout.TheVariants.{
+  Binary,
   Bool as Booleans,
-  Int,
   Decimal,
   FixedSizeBinary,
-  Utf8,
-  Binary,
+  Int,
   List as Listed,
   Struct,
+  Utf8,
 }
 use Rattle.values.specs.declared.layout.OffsetWidth.{OffsetWidth}
 use Rattle.arrays.specs.Checked.{CheckedColumn}

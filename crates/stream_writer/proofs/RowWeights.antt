@@ -30,7 +30,7 @@ use Rattle.std.specs.Prelude.{IfSome, Option, Some}
 use Rattle.std.proofs.lemmas.List.{drop_more, map-append}
 use Rattle.std.proofs.lemmas.List.Elements.{All-get_or}
 use Rattle.values.specs.Datum.{Datum}
-use Rattle.values.specs.Rose.{Roses, none, more}
+use Rattle.values.specs.Rose.{Roses, more, none}
 use Rattle.values.specs.declared.layout.Layout.{Layout}
 use Rattle.schema_meta.specs.Rows.{row_at, rows_from}
 use Rattle.body_writer.specs.Batch.{row_weight}

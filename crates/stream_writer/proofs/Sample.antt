@@ -3,11 +3,11 @@ use Rattle.std.proofs.Common.{◌≡◌, ℕ, zero, suc, List, [], ◌∷◌, �
 use Rattle.std.specs.Prelude.{pos, slice_index}
 use Rattle.std.specs.Str.{is_utf8}
 use Rattle.std.proofs.lemmas.Int.{ints}
-use Rattle.std.proofs.lemmas.List.Elements.{All-nil, All-cons}
-use Rattle.std.proofs.lemmas.Str.{is_utf8-from_IsUtf8, IsUtf8-from_ascii}
+use Rattle.std.proofs.lemmas.List.Elements.{All-cons, All-nil}
+use Rattle.std.proofs.lemmas.Str.{IsUtf8-from_ascii, is_utf8-from_IsUtf8}
 use Rattle.bitmaps.specs.Packed.{bytes_of}
 use Rattle.values.specs.Coded.{AreCoded, IsTextColumn}
-use Rattle.values.specs.Datum.{Datum, null, text, whole, items_of}
+use Rattle.values.specs.Datum.{Datum, items_of, null, text, whole}
 use Rattle.values.specs.Layouts.{FitsIn, HoldsEach, IsText}
 use Rattle.schema_meta.specs.SchemaTree.{schema_metadata}
 use Rattle.body_writer.specs.Columns.{joined, numbers, offsets, offsets_from, validity}

@@ -64,12 +64,12 @@ use Rattle.schema_meta.specs.Framing.{first}
 use Rattle.schema_meta.specs.Story.{Story, with_schema, story_by, story_step, story, story_of}
 use Rattle.schema_meta.specs.Means.{Means}
 use Rattle.schema_meta.proofs.SchemaFits.{schema-end, schema-writable}
-use Rattle.schema_meta.proofs.SchemaRead.{schema-law, columns-law}
+use Rattle.schema_meta.proofs.SchemaRead.{columns-law, schema-law}
 use Rattle.schema_meta.proofs.CodedFields.{coded-type, none-coded}
 use Rattle.body_writer.specs.Batch.{IsBatch, body_bytes, body_nodes, body_ranges}
 use Rattle.body_writer.proofs.Rows.{body-short}
 use Rattle.stream_writer.proofs.Counts.{body_nodes-few, body_ranges-few}
-use Rattle.stream_writer.specs.Batch.{batch_slots, batch_metadata}
+use Rattle.stream_writer.specs.Batch.{batch_metadata, batch_slots}
 use Rattle.stream_writer.specs.Coding.{indexed_layouts, indexed_rows, value_rows, values_at}
 use Rattle.stream_writer.specs.DictionaryBatch.{dictionary_metadata, dictionary_slots, text_layouts, values_body}
 use Rattle.stream_writer.specs.Stream.{

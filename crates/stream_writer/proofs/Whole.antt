@@ -39,7 +39,7 @@ use Rattle.stream_writer.specs.Table.{IsRow}
 use Rattle.stream_writer.specs.WrittenSoFar.{WrittenSoFar}
 use Rattle.stream_writer.specs.declared.faults.WriteFault.{WriteFault}
 use Rattle.stream_writer.proofs.Cut.{batches-left, batches-none}
-use Rattle.stream_writer.proofs.WrittenLemmas.{WrittenSoFar-start, WrittenSoFar-end}
+use Rattle.stream_writer.proofs.WrittenLemmas.{WrittenSoFar-end, WrittenSoFar-start}
 
 pub from-err : (old new : Sunk) (answer : Result ℕ WriteFault) (fault : WriteFault) (whole : List ℕ)
     → IsErrAnd answer (λ e. e ≡ fault) → Writes old new (Err fault) whole → Writes old new answer whole

@@ -27,14 +27,14 @@ use Rattle.std.proofs.Common.{
   inr,
 }
 use Rattle.std.specs.Prelude.{◌≢◌, ◌↔◌}
-use Rattle.std.proofs.lemmas.List.{append-nil, take-append-le, drop-drop, drop_at}
+use Rattle.std.proofs.lemmas.List.{append-nil, drop-drop, drop_at, take-append-le}
 use Rattle.std.proofs.lemmas.Bool.{cases_eq}
 use Rattle.std.proofs.Math.Seq.{take-add}
 use Rattle.std.specs.Io.KnownBytes.{Appends}
 use Rattle.stream_writer.specs.Sinks.{Sunk, Writes, written_of, IsWhole, IsDevice, fault_after}
 use Rattle.stream_writer.specs.WrittenSoFar.{WrittenSoFar}
 use Rattle.stream_writer.specs.declared.faults.WriteFault.{WriteFault}
-use Rattle.stream_writer.specs.declared.faults.WriteFault.TheVariants.{Memory, Device}
+use Rattle.stream_writer.specs.declared.faults.WriteFault.TheVariants.{Device, Memory}
 use Rattle.stream_writer.proofs.Puts.{Appends-then}
 
 nothing : (known : Option (List ℕ)) → Appends known known []

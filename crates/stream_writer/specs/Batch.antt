@@ -3,7 +3,7 @@ use Rattle.std.specs.Prelude.{ℕ, List, [], ◌∷◌, ◌++◌, length}
 use Rattle.std.specs.List.{flat_map}
 use Rattle.std.specs.Int.{w64}
 use Rattle.byteorder.specs.Endian.{little_bytes, low_bytes}
-use Rattle.flatbuf.specs.Tree.{number, structs, Nodes, nodes_of}
+use Rattle.flatbuf.specs.Tree.{Nodes, nodes_of, number, structs}
 use Rattle.flatbuf.specs.Written.{whole}
 use Rattle.values.specs.Datum.{Datum}
 use Rattle.values.specs.Rose.{Roses}

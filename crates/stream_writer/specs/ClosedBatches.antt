@@ -29,7 +29,7 @@ use Rattle.values.specs.Rose.{Rose, Roses}
 use Rattle.values.specs.declared.layout.Layout.{Layout}
 use Rattle.values.specs.Logical.{NamedType}
 use Rattle.body_writer.specs.Batch.{rows_weight}
-use Rattle.stream_writer.specs.Stream.{batch_messages, batch_len, batches, trees}
+use Rattle.stream_writer.specs.Stream.{batch_len, batch_messages, batches, trees}
 use Rattle.stream_writer.specs.Table.{IsRow}
 
 -- The next batch has all the rows that a batch can have, or the row after it would make it too heavy.

@@ -21,9 +21,9 @@ use Rattle.std.specs.Prelude.{
 }
 use Rattle.std.specs.List.{list_any, position_or_len}
 use Rattle.std.specs.Str.{bytes_eq}
-use Rattle.values.specs.Datum.{Datum, null, whole, text}
+use Rattle.values.specs.Datum.{Datum, null, text, whole}
 use Rattle.values.specs.Limits.{max_fields}
-use Rattle.values.specs.Rose.{Roses, node, none, more}
+use Rattle.values.specs.Rose.{Roses, more, node, none}
 use Rattle.values.specs.declared.layout.IntWidth.TheVariants as int
 use Rattle.values.specs.declared.layout.Layout.{Layout}
 use Rattle.values.specs.declared.layout.OffsetWidth.TheVariants as offset

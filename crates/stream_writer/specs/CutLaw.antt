@@ -8,7 +8,7 @@ use Rattle.values.specs.Rose.{Rose, Roses}
 use Rattle.values.specs.declared.layout.Layout.{Layout}
 use Rattle.values.specs.Logical.{NamedType}
 use Rattle.body_writer.specs.Batch.{IsBatch, rows_weight}
-use Rattle.stream_writer.specs.Stream.{batch_messages, batch_len, batches, trees}
+use Rattle.stream_writer.specs.Stream.{batch_len, batch_messages, batches, trees}
 use Rattle.stream_writer.specs.Table.{IsTable}
 
 -- the rows of each batch

@@ -1,6 +1,6 @@
 -- Arrow's DictionaryBatch table (Message.fbs) as a tree, and its message's metadata.
 use Rattle.std.specs.Prelude.{ℕ, List, [], ◌∷◌, length}
-use Rattle.flatbuf.specs.Tree.{number, table, Nodes, nodes_of}
+use Rattle.flatbuf.specs.Tree.{Nodes, nodes_of, number, table}
 use Rattle.flatbuf.specs.Written.{whole}
 use Rattle.values.specs.Rose.{Roses}
 use Rattle.values.specs.declared.layout.Layout.{Layout}

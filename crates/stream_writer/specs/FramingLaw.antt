@@ -4,7 +4,7 @@ use Rattle.values.specs.Limits.{max_metadata_size}
 use Rattle.schema_meta.specs.Stage.{Known, Meta, end_meta}
 use Rattle.schema_meta.specs.Message.{meta_of}
 use Rattle.schema_meta.specs.Framing.{first}
-use Rattle.stream_writer.specs.Stream.{message, end_mark}
+use Rattle.stream_writer.specs.Stream.{end_mark, message}
 
 -- The first message of the bytes is this one, and its body begins after the metadata.
 abbrev pub FirstLaw : Type 0

@@ -4,7 +4,7 @@ use Rattle.values.specs.Datum.{Datum}
 use Rattle.values.specs.Rose.{Rose}
 use Rattle.values.specs.Logical.{NamedType}
 use Rattle.values.specs.Coded.{AreCoded}
-use Rattle.schema_meta.specs.SchemaLaw.{coded_fields, stored_fields, AreNamed, before}
+use Rattle.schema_meta.specs.SchemaLaw.{AreNamed, before, coded_fields, stored_fields}
 use Rattle.schema_meta.specs.Story.{Story, story, story_of}
 use Rattle.schema_meta.specs.Means.{Means}
 use Rattle.stream_writer.specs.Stream.{canon, coded_canon}

@@ -2,7 +2,7 @@
 -- without rows: texts, and lists of texts.
 use Rattle.std.specs.Prelude.{ℕ, List, [], ◌∷◌, pos, true}
 use Rattle.values.specs.Datum.{Datum, null, text, whole}
-use Rattle.values.specs.Rose.{Rose, node, none, more}
+use Rattle.values.specs.Rose.{Rose, more, node, none}
 use Rattle.values.specs.declared.layout.IntWidth.TheVariants as int
 use Rattle.values.specs.declared.layout.OffsetWidth.TheVariants as offset
 use Rattle.values.specs.Logical.{NamedType, item_name}

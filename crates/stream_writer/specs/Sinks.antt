@@ -28,7 +28,7 @@ use Rattle.std.specs.Prelude.{
 use Rattle.std.specs.Io.KnownBytes.{Appends, WriteAppends}
 use Rattle.stream_writer.specs.declared.sink.DeviceFault.{DeviceFault}
 use Rattle.stream_writer.specs.declared.faults.WriteFault.{WriteFault}
-use Rattle.stream_writer.specs.declared.faults.WriteFault.TheVariants.{Memory, Device}
+use Rattle.stream_writer.specs.declared.faults.WriteFault.TheVariants.{Device, Memory}
 
 -- the bytes that a sink took, where it shows them, and its failures, modulo 2^64
 pub record Sunk : Type 0 where

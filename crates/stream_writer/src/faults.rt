@@ -1,7 +1,7 @@
 //! Faults of writing a table.
 
 ghost use Rattle.std.specs.Prelude.{◌≡◌, ◌+◌, ◌^◌, ◌<◌, Err};
-ghost use Rattle.stream_writer.specs.Sinks.{written_of, fault_after};
+ghost use Rattle.stream_writer.specs.Sinks.{fault_after, written_of};
 
 use std::alloc::AllocError;
 use thiserror::Error;

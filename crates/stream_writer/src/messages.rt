@@ -5,8 +5,8 @@ ghost use Rattle.std.specs.Int.{w64};
 ghost use Rattle.byteorder.specs.Endian.{little_bytes, low_bytes};
 ghost use Rattle.flatbuf.specs.Built.{slots};
 ghost use Rattle.schema_meta.specs.SchemaTree.{AreColumns};
-ghost use Rattle.values.specs.Limits.{max_body_size, max_metadata_size, max_fields};
-ghost use Rattle.stream_writer.specs.Batch.{node_bytes as nodes_as, range_bytes as ranges_as, batch_slots, batch_whole};
+ghost use Rattle.values.specs.Limits.{max_body_size, max_fields, max_metadata_size};
+ghost use Rattle.stream_writer.specs.Batch.{batch_slots, batch_whole, node_bytes as nodes_as, range_bytes as ranges_as};
 ghost use Rattle.stream_writer.specs.DictionaryBatch.{dictionary_slots, dictionary_whole};
 ghost use Rattle.stream_writer.specs.Stream as stream;
 

@@ -25,7 +25,7 @@ pub trait Sink {
         ensures { Puts (sunk self.old) (sunk self.new) result piece.now };
 }
 
-ghost use Rattle.stream_writer.specs.Sinks.{Writes, IsDeviceFault};
+ghost use Rattle.stream_writer.specs.Sinks.{IsDeviceFault, Writes};
 
 /// Puts all bytes, in as many pieces as the sink asks for, and returns how many they are. On an error the sink took the
 /// first `written` of them.

@@ -4,7 +4,7 @@ ghost use Rattle.std.specs.Prelude.{◌≡◌, ℕ, All, length, map};
 ghost use Rattle.values.specs.Rose.{kids_of};
 ghost use Rattle.stream_writer.specs.Sinks.{Writes};
 ghost use Rattle.values.specs.Coded.{AreCoded};
-ghost use Rattle.stream_writer.specs.Stream.{trees, canon, coded_canon};
+ghost use Rattle.stream_writer.specs.Stream.{canon, coded_canon, trees};
 ghost use Rattle.body_writer.specs.RowRanges.{IsSized, ranges_rows, rows_of};
 ghost use Rattle.body_writer.specs.Picked.{HaveColumns, picked_rows};
 ghost use Rattle.stream_writer.specs.BatchRows.{AreLightRows};

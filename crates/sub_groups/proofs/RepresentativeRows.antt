@@ -54,7 +54,7 @@ use Rattle.view_lang.specs.Views.{passing_row}
 use Rattle.view_lang.specs.declared.view.Lookup.{Lookup}
 use Rattle.group_state.specs.Cells.{KeepsCells}
 use Rattle.group_state.specs.GroupCounts.{GroupCounts}
-use Rattle.group_state.specs.Keys.{key_in, tuple_cmp, data_of}
+use Rattle.group_state.specs.Keys.{data_of, key_in, tuple_cmp}
 use Rattle.group_state.specs.Rows.{KeepsRows, cells}
 use Rattle.group_state.specs.Tuples.{has_tuple, members, tuple_of}
 use Rattle.group_state.specs.declared.accumulated_columns.AccumulatedColumn.{AccumulatedColumn}

@@ -2,10 +2,10 @@
 use Rattle.std.proofs.Common.{◌≡◌, refl, ap, ap₂, sym, true≢false}
 use Rattle.std.specs.Prelude.{List, [], ◌∷◌, true, false}
 use Rattle.std.specs.declared.cmp.Ordering.{Ordering}
-use Rattle.std.specs.declared.cmp.Ordering.TheVariants.{Less, Equal, Greater}
+use Rattle.std.specs.declared.cmp.Ordering.TheVariants.{Equal, Greater, Less}
 use Rattle.std.specs.Ordering.{ordering_then}
 use Rattle.std.specs.Cmp.Lexicographic.{slice_cmp}
-use Rattle.values.specs.Datum.{Datum, null, truth, list, structure}
+use Rattle.values.specs.Datum.{Datum, list, null, structure, truth}
 use Rattle.values.specs.declared.key.Key.{Key}
 use Rattle.view_lang.proofs.ExactKeys.{key_exact}
 use Rattle.view_lang.specs.Cells.{cell_at}

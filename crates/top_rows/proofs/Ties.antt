@@ -3,9 +3,9 @@
 use Rattle.std.proofs.Common.{◌≡◌, refl, ap, ap₂, sym, ◌∙◌, arith, get_or, length}
 use Rattle.std.specs.Prelude.{ℕ, zero, suc, List, [], ◌∷◌, Bool, true, false, Option, None, Some, cond, ◌&&◌, ◌||◌, ◌+◌, ◌<◌, map, take}
 use Rattle.std.specs.declared.cmp.Ordering.{Ordering}
-use Rattle.std.specs.declared.cmp.Ordering.TheVariants.{Less, Equal, Greater}
+use Rattle.std.specs.declared.cmp.Ordering.TheVariants.{Equal, Greater, Less}
 use Rattle.std.specs.Ordering.{is_eq, is_gt, ordering_then, match_ordering, then_cmp, on}
-use Rattle.std.specs.Cmp.{IsTotalOrder, eq_by_cmp_equiv, tied_itself, tied_then, Equal-is}
+use Rattle.std.specs.Cmp.{Equal-is, IsTotalOrder, eq_by_cmp_equiv, tied_itself, tied_then}
 use Rattle.std.specs.Cmp.Lexicographic.{slice_cmp}
 use Rattle.std.specs.List.{AllByRecursion, list_any}
 use Rattle.std.specs.List.Sorted.{IsStrictlySortedBy}
@@ -15,7 +15,7 @@ use Rattle.std.specs.BTreeSet.{insert_key}
 use Rattle.std.proofs.lemmas.List.Folds.{list_any_more}
 use Rattle.std.proofs.lemmas.Map.{lookup-none}
 use Rattle.std.proofs.lemmas.Map.Entries.{none_past_head}
-use Rattle.std.proofs.lemmas.Map.Keys.{sorted_tail, IsDistinct-from_sorted}
+use Rattle.std.proofs.lemmas.Map.Keys.{IsDistinct-from_sorted, sorted_tail}
 use Rattle.std.proofs.lemmas.Map.Lookups.{CmpEqualImpliesEq}
 use Rattle.values.specs.Datum.{Datum}
 use Rattle.view_lang.specs.Sorted.{placed, sorted}
@@ -39,7 +39,7 @@ use Rattle.top_rows.specs.Ties.{
   pick,
   without,
 }
-use Rattle.top_rows.proofs.SortKeys.{sort_keys_exact, sort-keys-cmp, then-first, then-second}
+use Rattle.top_rows.proofs.SortKeys.{sort-keys-cmp, sort_keys_exact, then-first, then-second}
 use Rattle.top_rows.proofs.InsertedKeys.{any-insert_key, sorted-insert_key}
 
 and_true : (a : Bool) → (a && true) ≡ a

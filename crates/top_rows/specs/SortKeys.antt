@@ -1,5 +1,5 @@
 -- What a row is ordered by.
-use Rattle.std.specs.Prelude.{List, map, None, Option, Some}
+use Rattle.std.specs.Prelude.{List, None, Option, Some, map}
 use Rattle.values.specs.Datum.{Datum}
 use Rattle.values.specs.Keys.{key_of}
 use Rattle.values.specs.declared.key.Key.{Key}

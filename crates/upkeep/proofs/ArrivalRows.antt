@@ -87,10 +87,10 @@ use Rattle.row_keys.specs.Slots.{Slot, new_slot, no_slot, row_of}
 use Rattle.row_keys.specs.Store.{Store}
 use Rattle.upkeep.specs.Arrivals.{
   AreReferring,
-  EachDescribes,
-  IsDropped,
   Describes,
   DescribesSome,
+  EachDescribes,
+  IsDropped,
   last_rows,
   opened_at,
   opened_first,

@@ -95,7 +95,7 @@ use Rattle.sub_groups.specs.FilterParts.{is_main, passes_main}
 use Rattle.sub_groups.specs.SubGroups.{AreSubGroups, IsSubRow, OthersAreLeftOut, rows_but, sub_keys}
 use Rattle.sub_groups.specs.declared.sub_groups.SubGroups.{SubGroups}
 use Rattle.upkeep.specs.Inputs.{side_by}
-use Rattle.upkeep.specs.Moves.{AreGrouped, CanMove, CanTurnSubGroups, TurnsSubGroups, projected_but, out_at}
+use Rattle.upkeep.specs.Moves.{AreGrouped, CanMove, CanTurnSubGroups, TurnsSubGroups, out_at, projected_but}
 use Rattle.upkeep.specs.Stores.{Rows}
 use Rattle.upkeep.specs.ViewStates.{
   AreLinks,

@@ -62,7 +62,7 @@ use Rattle.group_state.proofs.Same.{keeps-same}
 use Rattle.sub_groups.specs.Places.{representative_row}
 use Rattle.sub_groups.specs.SubGroups.{ArePlaced, IsSubRow, SubGroupsArePlaced, SubGroupsPart, rows_but, sub_keys}
 use Rattle.sub_groups.specs.declared.sub_groups.SubGroups.{SubGroups}
-use Rattle.upkeep.specs.Moves.{AreGrouped, AreParted, CanMove, after_move, before_move, projected_but, out_at}
+use Rattle.upkeep.specs.Moves.{AreGrouped, AreParted, CanMove, after_move, before_move, out_at, projected_but}
 use Rattle.upkeep.specs.ViewStates.{width_in}
 use Rattle.upkeep.specs.declared.view_state.Turn.{Turn}
 use Rattle.upkeep.specs.declared.view_state.Turn.TheVariants as turn

@@ -28,11 +28,11 @@ use Rattle.upkeep.specs.StoreLaws.{rows_there, set_same, tables_length}
 use Rattle.upkeep.specs.Stores.{Rows, rows_at, rows_in, tables_in}
 use Rattle.upkeep.specs.ViewStates.{
   IsMaterializedBy,
+  link_change,
+  link_row,
   projected_by,
   projected_change,
   projected_row,
-  link_change,
-  link_row,
   turned,
   turned_by,
 }

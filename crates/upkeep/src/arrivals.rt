@@ -5,7 +5,7 @@ ghost use Rattle.std.specs.Prelude.{◌≡◌, ◌<◌, All, IfOk, get_or, lengt
 ghost use Rattle.std.specs.Option.{IfSome};
 ghost use Rattle.view_lang.specs.Truth.{is_true};
 ghost use Rattle.row_keys.specs.Batches.{batch_rows};
-ghost use Rattle.upkeep.specs.Arrivals.{AreReferring, EachDescribes, Describes};
+ghost use Rattle.upkeep.specs.Arrivals.{AreReferring, Describes, EachDescribes};
 
 use crate::view_state::ViewState;
 use arrays::Column;

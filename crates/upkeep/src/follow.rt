@@ -24,7 +24,7 @@ ghost use Rattle.view_lang.specs.ConfigRules.{IsView};
 ghost use Rattle.row_keys.specs.Numbered.{numbered};
 ghost use Rattle.row_keys.specs.Slots.{live, no_slot, row_of};
 ghost use Rattle.upkeep.specs.Arrivals.{Describes, DescribesSome, opened_at, opened_first, rows_of_numbers};
-ghost use Rattle.upkeep.specs.Following.{CanFollow, CanTurn, MaterializedFollows, LinksFollow, ViewFollows};
+ghost use Rattle.upkeep.specs.Following.{CanFollow, CanTurn, LinksFollow, MaterializedFollows, ViewFollows};
 ghost use Rattle.upkeep.specs.Inputs.{side_from};
 ghost use Rattle.upkeep.specs.Stores.{HaveSameRows, main_slots, rows_in, tables_in, visits_in};
 ghost use Rattle.upkeep.specs.ViewStates.{

@@ -10,7 +10,7 @@ ghost use Rattle.group_order.specs.Ranked.{Keeps as KeepsRanked};
 ghost use Rattle.lookups.specs.Keeping.{Keeps as KeepsReferrers};
 ghost use Rattle.top_rows.specs.Keeping.{Keeps as KeepsOrder};
 ghost use Rattle.sub_groups.specs.SubGroups.{IsSame, KeepsSubGroups};
-ghost use Rattle.upkeep.specs.Following.{CanTurn, Follows, MaterializedFollows, LinksFollow};
+ghost use Rattle.upkeep.specs.Following.{CanTurn, Follows, LinksFollow, MaterializedFollows};
 ghost use Rattle.upkeep.specs.ViewStates.{
   IsMaterialized,
   KeepsLinks,

@@ -5,7 +5,7 @@ ghost use Rattle.std.specs.Option.{option_map};
 ghost use Rattle.schema_meta.specs.Story.{story_of};
 ghost use Rattle.feed.specs.Shown.{event_seen};
 ghost use Rattle.liveviews.specs.Inspect.{Account, ReportsAccount, account_of, refusal_line, status_where};
-ghost use Rattle.liveviews.specs.Inspecting.{Breaks, HasRun, HasConsumed, IsFresh, IsLeft, IsOpen};
+ghost use Rattle.liveviews.specs.Inspecting.{Breaks, HasConsumed, HasRun, IsFresh, IsLeft, IsOpen};
 ghost use Rattle.liveviews.specs.Files.{InspectsFile};
 ghost use Rattle.liveviews.specs.Source.{OfSource};
 ghost use Rattle.liveviews.specs.Lines.{ended_after, given_lines};

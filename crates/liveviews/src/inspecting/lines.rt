@@ -5,9 +5,9 @@ ghost use Rattle.std.specs.Option.{option_map};
 ghost use Rattle.feed.specs.Shown.{event_seen};
 ghost use Rattle.liveviews.specs.Lines.{
   batch_line,
-  encoding_text,
   count_line,
   dictionary_line,
+  encoding_text,
   ended_after,
   event_lines,
   field_line,

@@ -8,7 +8,7 @@ ghost use Rattle.stream_writer.specs.Sinks.{Writes};
 ghost use Rattle.stream_writer.specs.Stream.{canon};
 ghost use Rattle.stream_writer.specs.Table.{IsTable};
 ghost use Rattle.liveviews.specs.Taken.{AreAccepted};
-ghost use Rattle.liveviews.specs.Buffered.{IsCounted, IsBuffered, IsWritable, buffered_rows};
+ghost use Rattle.liveviews.specs.Buffered.{IsBuffered, IsCounted, IsWritable, buffered_rows};
 ghost use Rattle.liveviews.specs.Refused.{RefusesBatch};
 
 use crate::recasting::batch::columns_law;

@@ -21,7 +21,7 @@ ghost use Rattle.body_writer.specs.RowRanges.{batch_rows};
 ghost use Rattle.stream_writer.specs.Sinks.{Sunk};
 ghost use Rattle.stream_writer.specs.Weights.{HasSizes};
 ghost use Rattle.liveviews.specs.Source.{OfSource};
-ghost use Rattle.liveviews.specs.Steps.{IsOpen, IsConsumed};
+ghost use Rattle.liveviews.specs.Steps.{IsConsumed, IsOpen};
 ghost use Rattle.liveviews.specs.Streams.{
   HasStreamed,
   HasWritten,

@@ -1,7 +1,7 @@
 //! Reads a whole stream into a table.
 
 ghost use Rattle.std.specs.Prelude.{◌≡◌, ◌≤◌, ◌<◌, ◌++◌, ℕ, List, [], All, IfErr, IfOk, OnOk, drop, length};
-ghost use Rattle.liveviews.specs.Buffered.{IsCounted, IsBufferedSo, IsWritable, buffered_rows};
+ghost use Rattle.liveviews.specs.Buffered.{IsBufferedSo, IsCounted, IsWritable, buffered_rows};
 ghost use Rattle.values.specs.Datum.{Datum};
 ghost use Rattle.schema_meta.specs.Story.{Story, story_of};
 ghost use Rattle.schema_meta.specs.Means.{Means};
@@ -11,9 +11,9 @@ ghost use Rattle.liveviews.specs.Steps.{
   HasConsumed,
   HasConsumedAll,
   IsComplete,
+  IsConsumed,
   IsOpen,
   IsRead,
-  IsConsumed,
   Reached,
   Refuses,
 };

@@ -7,7 +7,7 @@ ghost use Rattle.liveviews.specs.Files.{RecastsSource};
 ghost use Rattle.liveviews.specs.Buffered.{IsCounted, IsWritable, buffered_rows};
 ghost use Rattle.liveviews.specs.Recast.{Recasts};
 ghost use Rattle.liveviews.specs.Source.{OfSource};
-ghost use Rattle.liveviews.specs.Steps.{IsRead, IsConsumed};
+ghost use Rattle.liveviews.specs.Steps.{IsConsumed, IsRead};
 
 use crate::files::FileFault;
 use crate::laws::recast_law;

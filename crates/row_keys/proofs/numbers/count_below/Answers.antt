@@ -1,4 +1,4 @@
-use Rattle.std.proofs.Common.{rules, of_calls}
+use Rattle.std.proofs.Common.{of_calls, rules}
 use Rattle.std.specs.Prelude.{nat_lt}
 use Rattle.std.proofs.lemmas.Fn.{always_returns_same}
 use Rattle.row_keys.proofs.RetainedEntries.{kept_parted}

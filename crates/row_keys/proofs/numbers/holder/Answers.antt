@@ -3,8 +3,8 @@ use Rattle.std.proofs.lemmas.Option.{slice_get-get_or}
 use Rattle.row_keys.proofs.RetainedEntries.{held_here, held_not}
 use Rattle.row_keys.proofs.numbers.holder.Goals as goal
 use Rattle.row_keys.proofs.numbers.holder.Goals.{
-  else-entry-place-via-then-entry-place+else-entry,
   else-entry-place-via-else-entry-place,
+  else-entry-place-via-then-entry-place+else-entry,
 }
 
 pub returns-then-entry : goal.returns-then-entry

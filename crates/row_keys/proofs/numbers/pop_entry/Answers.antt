@@ -1,4 +1,4 @@
-use Rattle.std.proofs.Common.{List, false, true, subst}
+use Rattle.std.proofs.Common.{List, false, subst, true}
 use Rattle.row_keys.specs.Entries.{EndsAt}
 use Rattle.row_keys.specs.declared.numbers.RetainedEntry.{RetainedEntry}
 use Rattle.row_keys.proofs.RetainedEntries.{none_popped, one_popped}

@@ -1,4 +1,4 @@
-use Rattle.std.proofs.Common.{rules, of_calls}
+use Rattle.std.proofs.Common.{of_calls, rules}
 use Rattle.std.proofs.lemmas.List.Elements.{filter_from_retain}
 use Rattle.row_keys.specs.Entries.{is_kept}
 use Rattle.row_keys.proofs.numbers.sweep.Goals as goal

@@ -1,7 +1,7 @@
 use Rattle.std.proofs.Common.{◌∙◌}
 use Rattle.row_keys.proofs.TakenApart.{can_revive, revived_all, revived_more, revived_same}
 use Rattle.row_keys.proofs.parts.revive_rows.Goals as goal
-use Rattle.row_keys.proofs.parts.revive_rows.Goals.{then-row, else-row}
+use Rattle.row_keys.proofs.parts.revive_rows.Goals.{else-row, then-row}
 
 pub revive-requires : goal.revive-requires
 revive-requires c =

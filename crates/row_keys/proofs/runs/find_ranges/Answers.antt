@@ -6,7 +6,7 @@ use Rattle.row_keys.specs.declared.runs.Run.{Run}
 use Rattle.row_keys.specs.declared.stored_rows.Location.{Location}
 use Rattle.row_keys.proofs.RunRows.{RunSoFar, index_small, run_grows, run_turns}
 use Rattle.row_keys.proofs.runs.find_ranges.Goals as goal
-use Rattle.row_keys.proofs.runs.find_ranges.Goals.{then-at-run+then-at-run-2, else-at-run+in_ok-push_run}
+use Rattle.row_keys.proofs.runs.find_ranges.Goals.{else-at-run+in_ok-push_run, then-at-run+then-at-run-2}
 
 pub overflow_add-run : goal.overflow_add-run
 overflow_add-run c =

@@ -1,7 +1,7 @@
 use Rattle.std.proofs.Common.{arith, refl}
 use Rattle.row_keys.proofs.RowPlaces.{turn_found, turn_none_over, turn_none_under}
 use Rattle.row_keys.proofs.stored_chunk.place_in_turn.Goals as goal
-use Rattle.row_keys.proofs.stored_chunk.place_in_turn.Goals.{then-number-first-via-then-number-first, then-number-first-via-else-number-first+then-number-first-2}
+use Rattle.row_keys.proofs.stored_chunk.place_in_turn.Goals.{then-number-first-via-else-number-first+then-number-first-2, then-number-first-via-then-number-first}
 
 pub returns-then-number-first : goal.returns-then-number-first
 returns-then-number-first c = elim c.then-number-first.branch [

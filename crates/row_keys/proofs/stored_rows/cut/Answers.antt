@@ -1,4 +1,4 @@
-use Rattle.std.proofs.Common.{List, arith, subst, true, false}
+use Rattle.std.proofs.Common.{List, arith, false, subst, true}
 use Rattle.std.proofs.lemmas.Grind.{common_steps}
 use Rattle.row_keys.specs.Chunks.{Chunk, EndsAbove}
 use Rattle.row_keys.proofs.ChunkedRows.{cut_end, cut_more, last_is, popped}

@@ -1,4 +1,4 @@
-use Rattle.std.proofs.Common.{arith, ap, get_or}
+use Rattle.std.proofs.Common.{ap, arith, get_or}
 use Rattle.stream_writer.proofs.BatchRowLemmas.{first-is, place-step}
 use Rattle.stream_writer.proofs.TableWriterLemmas.{within-step}
 use Rattle.stream_writer.proofs.batch_rows.find_row.Goals as goal

@@ -2,7 +2,7 @@ use Rattle.std.proofs.Common.{◌∙◌, arith, refl, subst, sym, ap, All}
 use Rattle.body_writer.specs.RowRanges.{IsRange, batch_rows}
 use Rattle.stream_writer.proofs.BatchRowLemmas.{rows-then, rows-else, all-ranges, batch-long, batch-sized}
 use Rattle.stream_writer.proofs.batch_rows.ranges_of.Goals as goal
-use Rattle.stream_writer.proofs.batch_rows.ranges_of.Goals.{then-start-to+in_ok-push, else-start-to}
+use Rattle.stream_writer.proofs.batch_rows.ranges_of.Goals.{else-start-to, then-start-to+in_ok-push}
 
 pub loop-batch-preserved : goal.loop-batch-preserved
 loop-batch-preserved c =

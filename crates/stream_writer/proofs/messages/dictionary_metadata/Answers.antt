@@ -1,6 +1,6 @@
 use Rattle.std.proofs.Common.{ℕ, ◌<◌, ◌^◌, ◌∙◌, List, arith, ap, sym, subst}
 use Rattle.flatbuf.specs.Tree.{Nodes, table}
-use Rattle.flatbuf.specs.Written.{object_end, IsWritable, whole}
+use Rattle.flatbuf.specs.Written.{IsWritable, object_end, whole}
 use Rattle.flatbuf.specs.Built.{slots}
 use Rattle.schema_meta.specs.declared.header.MessageKind.TheVariants as kind
 use Rattle.schema_meta.specs.MessageTree.{message_slots}

@@ -1,4 +1,4 @@
-use Rattle.std.proofs.Common.{subst, sym, Err}
+use Rattle.std.proofs.Common.{Err, subst, sym}
 use Rattle.stream_writer.specs.Sinks.{Writes}
 use Rattle.stream_writer.specs.declared.faults.WriteFault.{WriteFault}
 use Rattle.stream_writer.proofs.WrittenLemmas.{WrittenSoFar-on, WrittenSoFar-stop}

@@ -2,7 +2,7 @@ use Rattle.std.proofs.Common.{◌∙◌, ◌++◌, List, length, ap, take, drop,
 use Rattle.values.specs.Datum.{Datum}
 use Rattle.values.specs.Rose.{kids_of}
 use Rattle.stream_writer.specs.Progress.{HasPut, IsHeld, last_rows}
-use Rattle.stream_writer.specs.Stream.{batches, batch_len, batch_messages, coded_canon, end_mark, trees}
+use Rattle.stream_writer.specs.Stream.{batch_len, batch_messages, batches, coded_canon, end_mark, trees}
 use Rattle.stream_writer.proofs.Cut.{batch-of, batch-some, batch_len-within, light-of, sound-left}
 use Rattle.stream_writer.proofs.ClosedBatchLemmas.{closed-some}
 use Rattle.stream_writer.proofs.ProgressLemmas.{

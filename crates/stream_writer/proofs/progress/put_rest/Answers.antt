@@ -1,6 +1,6 @@
 use Rattle.std.proofs.Common.{◌∙◌, ◌++◌, [], length, ap, take, drop, arith, length-drop, refl}
 use Rattle.values.specs.Rose.{kids_of}
-use Rattle.stream_writer.specs.Stream.{batches, batch_len, batch_messages, end_mark, trees}
+use Rattle.stream_writer.specs.Stream.{batch_len, batch_messages, batches, end_mark, trees}
 use Rattle.stream_writer.proofs.Cut.{batch-of, batch-some, light-of}
 use Rattle.stream_writer.proofs.ProgressLemmas.{held-rest}
 use Rattle.stream_writer.proofs.Whole.{batch-comes, end-comes, from-err, last-put, none-left, some-left}

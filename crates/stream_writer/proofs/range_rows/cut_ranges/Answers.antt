@@ -3,7 +3,7 @@ use Rattle.body_writer.specs.RowRanges.{IsRange, range_rows}
 use Rattle.stream_writer.proofs.BatchRowLemmas.{rows-then, rows-else, all-ranges}
 use Rattle.stream_writer.proofs.RangeLemmas.{part-range, part-rows, range-at, range-long}
 use Rattle.stream_writer.proofs.range_rows.cut_ranges.Goals as goal
-use Rattle.stream_writer.proofs.range_rows.cut_ranges.Goals.{then-start-to+in_ok-push, else-start-to}
+use Rattle.stream_writer.proofs.range_rows.cut_ranges.Goals.{else-start-to, then-start-to+in_ok-push}
 
 pub rows_in-rows-requires : goal.rows_in-rows-requires
 rows_in-rows-requires c =

@@ -3,7 +3,7 @@ use Rattle.values.specs.Limits.{max_batch_rows}
 use Rattle.values.specs.Rose.{kids_of}
 use Rattle.body_writer.specs.Batch.{row_weight}
 use Rattle.body_writer.proofs.Rows.{cells_in}
-use Rattle.stream_writer.specs.Stream.{beginning, batch_len}
+use Rattle.stream_writer.specs.Stream.{batch_len, beginning}
 use Rattle.stream_writer.proofs.Cut.{saturated-weight, stops-heavy, stops-end, goes-on}
 use Rattle.stream_writer.proofs.rows.len_of_batch.Goals as goal
 

@@ -1,6 +1,6 @@
 use Rattle.std.proofs.Common.{◌∙◌, arith}
 use Rattle.stream_writer.proofs.Puts.{put-on}
-use Rattle.stream_writer.proofs.sink.put_all.Goals.{in-Ok, in-Err}
+use Rattle.stream_writer.proofs.sink.put_all.Goals.{in-Err, in-Ok}
 use Rattle.stream_writer.proofs.sink.put_all.Goals as goal
 
 pub loop-written-preserved : goal.loop-written-preserved

@@ -5,7 +5,7 @@ use Rattle.view_lang.specs.Images.{shift_image}
 use Rattle.view_lang.specs.Shifts.{Fits}
 use Rattle.row_keys.specs.Slots.{no_slot, row_of}
 use Rattle.row_keys.specs.Store.{Store}
-use Rattle.upkeep.specs.Arrivals.{DescribesSome, DescribesRow}
+use Rattle.upkeep.specs.Arrivals.{DescribesRow, DescribesSome}
 use Rattle.upkeep.specs.Inputs.{side_by}
 use Rattle.upkeep.specs.Stores.{rows_at, rows_in, tables_in}
 use Rattle.upkeep.specs.ViewStates.{IsMaterialized, KeepsLinks, link_row, projected_row, turned}

@@ -1,4 +1,4 @@
-use Rattle.std.proofs.Common.{suc, All, take}
+use Rattle.std.proofs.Common.{All, suc, take}
 use Rattle.std.specs.Prelude.{IfSome}
 use Rattle.row_keys.specs.Slots.{IsLiveAt}
 use Rattle.upkeep.specs.JoinedRows.{AreLookedUp}

@@ -2,7 +2,7 @@ use Rattle.std.proofs.Common.{◌≡◌, List}
 use Rattle.values.specs.Datum.{Datum}
 use Rattle.group_order.specs.Ranked.{Keeps as KeepsRanked}
 use Rattle.upkeep.specs.Inputs.{side_by}
-use Rattle.upkeep.specs.Moves.{AreGrouped, projected_but, out_at}
+use Rattle.upkeep.specs.Moves.{AreGrouped, out_at, projected_but}
 use Rattle.upkeep.specs.Stores.{rows_in, tables_in}
 use Rattle.upkeep.proofs.sub_group_moves.turn_sub_groups.Given as goal
 

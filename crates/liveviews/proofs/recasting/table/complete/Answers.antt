@@ -1,4 +1,4 @@
-use Rattle.std.proofs.lemmas.Result.{err_from_is_err_and, IfOk-weaker}
+use Rattle.std.proofs.lemmas.Result.{IfOk-weaker, err_from_is_err_and}
 use Rattle.liveviews.specs.Buffered.{buffered_rows}
 use Rattle.liveviews.proofs.recasting.table.complete.Goals as goal
 

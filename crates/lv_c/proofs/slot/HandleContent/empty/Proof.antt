@@ -1,14 +1,14 @@
 -- `empty` makes a slot of the null pointer, which owns nothing.
-use mathlib.Core.Path.{refl, sym, subst}
+use mathlib.Core.Path.{refl, subst, sym}
 use mathlib.Core.List.{List, [], ◌∷◌, ◌++◌}
 use seplogic.Ra.Ura.{Ura}
 use lib.Dec.{lit<}
 use mir.Val.{Val, vstruct, vcons, vnil, has_ty}
-use base.Logic.{SProp, ent, emp}
-use base.Fml.{ftrue, fsep}
+use base.Logic.{SProp, emp, ent}
+use base.Fml.{fsep, ftrue}
 use prog.Memory.{Memory}
 use prog.Routine.{Routine}
-use prog.Wp.{WpFn, Tables}
+use prog.Wp.{Tables, WpFn}
 use types.Logic.{Logic}
 use contract.Monad.{Fun}
 use contract.Running.{tables, tables_of}
@@ -41,7 +41,7 @@ use denote.Exit.{yes}
 use denote.RattleType.{Valss}
 use denote.Builtin.{RawPtr}
 use denote.RawPtr.{null_ptr, ptr_val}
-use denote.Signature.{type_at, plain}
+use denote.Signature.{plain, type_at}
 use denote.Steps.{nothing}
 use denote.Struct.Struct.{within}
 use denote.Struct.Owning.{shape}

@@ -1,19 +1,19 @@
 -- `into_loose` moves two fields, and what they own goes with them.
-use mathlib.Core.Path.{refl, sym, subst}
+use mathlib.Core.Path.{refl, subst, sym}
 use contract.Monad.{fact}
 use denote.Steps.{heard}
 use types.Kit.{rewrite}
-use Rattle.std.specs.Prelude.{Option, IsSome}
+use Rattle.std.specs.Prelude.{IsSome, Option}
 use Rattle.lv_c.specs.contracts.slot.HandleContent as Full
 use Rattle.lv_c.proofs.Filled.{held, is_held}
 use mathlib.Core.List.{List, [], ◌∷◌, ◌++◌}
 use seplogic.Ra.Ura.{Ura}
 use mir.Val.{Val}
 use base.Logic.{SProp, ent, id⊢}
-use base.Fml.{ftrue, fsep}
+use base.Fml.{fsep, ftrue}
 use prog.Memory.{Memory}
 use prog.Routine.{Routine}
-use prog.Wp.{WpFn, Tables}
+use prog.Wp.{Tables, WpFn}
 use types.Logic.{Logic}
 use contract.Monad.{Fun}
 use contract.Running.{tables, tables_of}
@@ -29,7 +29,7 @@ use denote.Triple.Spec.{triple_of}
 use denote.Triple.Table.{entered}
 use denote.Triple.Walked.{says, Stays, stay_dropped, walk_of, ends_at, Goes-dropped, walk_Meets}
 use Rattle.std_alloc.proofs.BoxSteps.Form.{D, B, word, box_typed}
-use Rattle.std_alloc.proofs.BoxSteps.Steps.{box_out, box_in}
+use Rattle.std_alloc.proofs.BoxSteps.Steps.{box_in, box_out}
 use Rattle.lv_c.proofs.AsBox.{E, FromSlot as From}
 use Rattle.lv_c.specs.contracts.slot.HandleContent.into_loose as F
 use Rattle.lv_c.specs.contracts.slot.HandleContent.into_loose.Key.{name as #self}

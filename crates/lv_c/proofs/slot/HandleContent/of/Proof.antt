@@ -1,14 +1,14 @@
 -- `of` moves two fields, and what they own goes with them.
-use mathlib.Core.Path.{refl, sym, subst}
+use mathlib.Core.Path.{refl, subst, sym}
 use Rattle.std.specs.Prelude.{Some}
 use mathlib.Core.List.{List, [], ◌∷◌, ◌++◌}
 use seplogic.Ra.Ura.{Ura}
 use mir.Val.{Val}
 use base.Logic.{SProp, ent, emp, id⊢}
-use base.Fml.{ftrue, fsep}
+use base.Fml.{fsep, ftrue}
 use prog.Memory.{Memory}
 use prog.Routine.{Routine}
-use prog.Wp.{WpFn, Tables}
+use prog.Wp.{Tables, WpFn}
 use types.Logic.{Logic}
 use contract.Monad.{Fun}
 use contract.Running.{tables, tables_of}
@@ -24,7 +24,7 @@ use denote.Triple.Spec.{triple_of}
 use denote.Triple.Table.{entered}
 use denote.Triple.Walked.{says, Stays, stay_dropped, walk_of, ends_at, Goes-dropped, walk_Meets}
 use Rattle.std_alloc.proofs.BoxSteps.Form.{D, B, word, box_typed}
-use Rattle.std_alloc.proofs.BoxSteps.Steps.{box_out, box_in}
+use Rattle.std_alloc.proofs.BoxSteps.Steps.{box_in, box_out}
 use Rattle.lv_c.proofs.AsBox.{E, FromLoose as From}
 use Rattle.lv_c.specs.contracts.slot.HandleContent.of as F
 use Rattle.lv_c.specs.contracts.slot.HandleContent.of.Key.{name as #self}

@@ -1,6 +1,6 @@
 use Rattle.std.proofs.Common.{◌<◌, ap, length, ◌∙◌}
 use Rattle.row_keys.specs.Numbers.{Numbered}
-use Rattle.row_keys.proofs.RetainedIndex.{key_got, key_is, kept_keyed, kept_seen}
+use Rattle.row_keys.proofs.RetainedIndex.{kept_keyed, kept_seen, key_got, key_is}
 use Rattle.row_keys.proofs.numbers.Numbers.key.Goals as goal
 
 pub unwrap-requires : goal.unwrap-requires

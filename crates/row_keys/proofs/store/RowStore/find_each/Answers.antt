@@ -4,7 +4,7 @@ use Rattle.std.specs.declared.alloc.Global.{Global}
 use Rattle.view_lang.specs.Causes.{cause_of}
 use Rattle.view_lang.specs.Edits.{retract}
 use Rattle.row_keys.specs.Found.{FindsAll, MissesKey}
-use Rattle.row_keys.specs.Slots.{CanRetract, keys_at, contents_of}
+use Rattle.row_keys.specs.Slots.{CanRetract, contents_of, keys_at}
 use Rattle.row_keys.specs.Store.{Refuses, Store}
 use Rattle.row_keys.specs.Stored.{joined}
 use Rattle.row_keys.proofs.FoundRows.{found_can, found_fits, found_keys, keys_refused, keys_unknown}

@@ -1,6 +1,6 @@
 use Rattle.std.proofs.Common.{◌+◌, ◌-◌, ◌∙◌, arith, sym}
 use Rattle.row_keys.proofs.ListedNumbers.{listed_more, listed_none, listed_over, listed_same}
-use Rattle.row_keys.proofs.store.RowStore.live_numbers.Goals.{then-is_live+in_ok-push, else-is_live}
+use Rattle.row_keys.proofs.store.RowStore.live_numbers.Goals.{else-is_live, then-is_live+in_ok-push}
 use Rattle.row_keys.proofs.store.RowStore.live_numbers.Goals as goal
 
 pub loop-number-init : goal.loop-number-init

@@ -3,7 +3,7 @@ use Rattle.row_keys.specs.Numbers.{Numbered}
 use Rattle.row_keys.specs.Slots.{CanPutBack, put_back}
 use Rattle.row_keys.specs.Store.{Store, with_slots}
 use Rattle.row_keys.specs.Stored.{IsStored, joined}
-use Rattle.row_keys.proofs.StoreStates.{revived_back, revived_can, revive_can, stored_revived}
+use Rattle.row_keys.proofs.StoreStates.{revive_can, revived_back, revived_can, stored_revived}
 use Rattle.row_keys.proofs.TurnedRows.{joined_revived}
 use Rattle.row_keys.proofs.store.RowStore.put_back.Goals as goal
 

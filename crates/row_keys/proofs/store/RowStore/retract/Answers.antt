@@ -2,7 +2,7 @@ use Rattle.std.proofs.Common.{◌≡◌, List, ap, subst, sym, ◌∙◌}
 use Rattle.view_lang.specs.Contents.{applied}
 use Rattle.view_lang.specs.Edits.{retract}
 use Rattle.row_keys.specs.Numbers.{AreLive, Numbered}
-use Rattle.row_keys.specs.Slots.{CanPutBack, CanRetract, keys_at, retracted, contents_of}
+use Rattle.row_keys.specs.Slots.{CanPutBack, CanRetract, contents_of, keys_at, retracted}
 use Rattle.row_keys.specs.Store.{Store, with_slots}
 use Rattle.row_keys.specs.Stored.{IsStored, joined}
 use Rattle.row_keys.proofs.StoreStates.{off_back, off_can, off_world, stored_off}

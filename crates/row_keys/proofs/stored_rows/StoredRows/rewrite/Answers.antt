@@ -1,7 +1,7 @@
 use Rattle.std.proofs.Common.{ℕ, ◌-◌, ◌∙◌, List, ap, arith, drop, length, subst, sym, take}
 use Rattle.values.specs.Rose.{kids_of}
 use Rattle.row_keys.specs.Chunks.{AreChunks, Chunk, row_in}
-use Rattle.row_keys.specs.RowsLeft.{IsHeld, IsPart, IsMerged}
+use Rattle.row_keys.specs.RowsLeft.{IsHeld, IsMerged, IsPart}
 use Rattle.row_keys.proofs.MergedChunks.{middle}
 use Rattle.row_keys.proofs.stored_rows.StoredRows.rewrite.Goals as goal
 

@@ -5,7 +5,7 @@ use Rattle.view_lang.specs.Config.{FeedConfig}
 use Rattle.session.specs.Names.{place_of}
 use Rattle.session.specs.Shows.{IsStep, SessionParts, columns_of, config_of}
 use Rattle.session.specs.Steps.{FinishStep}
-use Rattle.session.proofs.Sessions.{parts, finish_known, finish_unknown, session_kept}
+use Rattle.session.proofs.Sessions.{finish_known, finish_unknown, parts, session_kept}
 use Rattle.session.proofs.session.Session.finish.Goals as goal
 
 pub returns-then-place-len-clause-step : goal.returns-then-place-len-clause-step

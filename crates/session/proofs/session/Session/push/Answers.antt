@@ -5,7 +5,7 @@ use Rattle.view_lang.specs.Config.{FeedConfig}
 use Rattle.session.specs.Names.{place_of}
 use Rattle.session.specs.Shows.{IsStep, SessionParts, columns_of, config_of}
 use Rattle.session.specs.Steps.{PushStep}
-use Rattle.session.proofs.Sessions.{parts, link_shown, push_known, push_unknown, session_kept}
+use Rattle.session.proofs.Sessions.{link_shown, parts, push_known, push_unknown, session_kept}
 use Rattle.session.proofs.session.Session.push.Goals as goal
 
 pub returns-then-place-len-clause-step : goal.returns-then-place-len-clause-step

@@ -3,7 +3,7 @@ use Rattle.stream_writer.specs.Coding.{index_in}
 use Rattle.stream_writer.specs.Texts.{texts_in}
 use Rattle.body_writer.specs.Slots.{cell_of}
 use Rattle.stream_writer.proofs.NumberedTexts.{index-inserted, text-inserted}
-use Rattle.stream_writer.proofs.dictionary_builder.DictionaryBuilder.append.Goals.{then-is_new+in_ok-push, else-is_new}
+use Rattle.stream_writer.proofs.dictionary_builder.DictionaryBuilder.append.Goals.{else-is_new, then-is_new+in_ok-push}
 use Rattle.stream_writer.proofs.dictionary_builder.DictionaryBuilder.append.Goals as goal
 
 pub returns-clause-texts : goal.returns-clause-texts

@@ -1,4 +1,4 @@
-use Rattle.std.proofs.lemmas.Result.{err_from_is_err_and, IfErr-weaker}
+use Rattle.std.proofs.lemmas.Result.{IfErr-weaker, err_from_is_err_and}
 use Rattle.liveviews.specs.Inspect.{account_of}
 use Rattle.liveviews.proofs.Accounts.{fresh-left, left-whole}
 use Rattle.liveviews.proofs.inspecting.events.Inspection.run.Goals as goal

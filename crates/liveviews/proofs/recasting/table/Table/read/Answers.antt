@@ -1,5 +1,5 @@
 use Rattle.std.proofs.Common.{[], ap}
-use Rattle.std.proofs.lemmas.Result.{err_from_is_err_and, IfErr-weaker, IfOk-weaker}
+use Rattle.std.proofs.lemmas.Result.{IfErr-weaker, IfOk-weaker, err_from_is_err_and}
 use Rattle.schema_meta.specs.Story.{story_of}
 use Rattle.body_writer.specs.RowRanges.{rows_of}
 use Rattle.liveviews.proofs.Inputs.{begins, taken-whole}
