@@ -14,20 +14,15 @@ import time
 
 sys.dont_write_bytecode = True
 sys.path.insert(1, f"{sys.path[0]}/../models")
-from sessions import Live, push
+from sessions import MAIN, Live, push
 from streams import batch, field, schema
 
 ROOT = os.path.abspath(f"{__file__}/../../..")
 LIVE, SIDES, FIRST, ROUNDS, TOGETHER = 10000, 10000, 10000, 1000000, 500
-CONFIG = """
-[main]
-key = "i"
-columns = [["i", "int64"], ["n", "utf8"], ["a", "int64"], ["z", "int64"]]
+CONFIG = MAIN + """
 [side.zones]
 key = "z"
 columns = [["z", "int64"], ["t", "utf8"]]
-[feed.rows]
-role = "append"
 [feed.gone]
 role = "retract"
 [feed.zones]

@@ -11,20 +11,16 @@ import tempfile
 
 sys.dont_write_bytecode = True
 sys.path.insert(1, f"{sys.path[0]}/../models")
+from sessions import MAIN
 from streams import END_MARK, batch, field, schema
 
 LV = "crates/lv/out/lv"
 LIVE, ZONES = 1_000_000, 1000
 TURNS, FEW, MANY, RECASTS = 3, 3, 23, 10
-CONFIG = """
-[main]
-key = "i"
-columns = [["i", "int64"], ["n", "utf8"], ["a", "int64"], ["z", "int64"]]
+CONFIG = MAIN + """
 [side.zones]
 key = "z"
 columns = [["z", "int64"], ["m", "utf8"], ["p", "int64"], ["q", "int64"]]
-[feed.rows]
-role = "append"
 [feed.put]
 role = "put"
 side = "zones"

@@ -1,8 +1,17 @@
-"""A session of `lv live` to which many lines are sent at once, with its memory."""
+"""What the benches of sessions share: a main table with a feed that appends to it, and a session of `lv live` to which many lines are sent at
+once, with its memory."""
 import os
 import re
 import subprocess
 import sys
+
+MAIN = """
+[main]
+key = "i"
+columns = [["i", "int64"], ["n", "utf8"], ["a", "int64"], ["z", "int64"]]
+[feed.rows]
+role = "append"
+"""
 
 
 def push(feed, data):
