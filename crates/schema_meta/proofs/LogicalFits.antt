@@ -34,7 +34,7 @@ use Rattle.schema_meta.specs.FieldLayouts.{layouts_of, null_weight_fits, null_we
 use Rattle.schema_meta.specs.FieldsLaw.{AreGoodFields, ColumnsFit, ColumnsNamed}
 use Rattle.schema_meta.specs.LogicalLaw.{narrow_tree, narrow_trees}
 use Rattle.schema_meta.specs.SchemaTree.{AreWithin}
-use Rattle.schema_meta.proofs.NarrowLemmas.{logical-trees, narrow-fits, slot-narrow}
+use Rattle.schema_meta.proofs.NarrowLemmas.{logical-trees, narrow-fits, null_weight-narrow}
 
 narrow-type : (s : ColType) → IsType s → IsType (narrow s)
 narrow-type stored.Bool h = tt
@@ -142,7 +142,7 @@ below-depth s (more (node e kids) fs) = rw (below-depth e.stored kids, below-dep
 
 mutual
   null_weight_within-narrow : (t : Rose Layout) → null_weight_fits (narrow_tree t) ≡ null_weight_fits t
-  null_weight_within-narrow (node l kids) = rw (slot-narrow (node l kids), null_weights_within-narrow kids) refl
+  null_weight_within-narrow (node l kids) = rw (null_weight-narrow (node l kids), null_weights_within-narrow kids) refl
 
   null_weights_within-narrow : (ts : Roses Layout) → null_weights_fit (narrow_trees ts) ≡ null_weights_fit ts
   null_weights_within-narrow none = refl

@@ -5,7 +5,7 @@ use Rattle.values.specs.Datum.{Datum}
 use Rattle.values.specs.Rose.{Rose, node, Roses, none, more, kids_of}
 use Rattle.array_layout.specs.declared.array.DictionaryValues.{DictionaryValues}
 use Rattle.array_layout.specs.declared.array.ArrayData.{ArrayData}
-use Rattle.array_layout.specs.Placing.{placed, placed_all}
+use Rattle.array_layout.specs.Placing.{placed, placed_all, with_dictionary}
 use Rattle.values.specs.ColTypes.{layout_of as layout_by}
 use Rattle.values.specs.declared.col_type.ColType.{ColType}
 use Rattle.schema_meta.specs.declared.encoding.DictionaryEncoding.{DictionaryEncoding}

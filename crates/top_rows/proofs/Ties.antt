@@ -22,7 +22,7 @@ use Rattle.view_lang.specs.Sorted.{placed, sorted}
 use Rattle.view_lang.specs.RowOrder.{row_cmp}
 use Rattle.view_lang.specs.declared.view.OrderBy.{OrderBy}
 use Rattle.view_lang.proofs.AscendingKeys.{same-keys}
-use Rattle.view_lang.proofs.KeptRows.{sorted_by_entry}
+use Rattle.view_lang.proofs.KeptRows.{sorted_by_place}
 use Rattle.view_lang.proofs.OwnEntries.{HasOwn, own-entries}
 use Rattle.top_rows.specs.EntryOrder.{sort_key_cmp, tied_cmp, tied_total}
 use Rattle.top_rows.specs.SortKeys.{sort_keys_of}
@@ -200,7 +200,7 @@ module _ {N : Type 0} (cmp : N → N → Ordering) (total : IsTotalOrder cmp) (e
         ap (λ l. map (named cmp rows) (map (λ p. p.1) (take n l)))
         (order_entries-are order_entries rows up s k ∙ placed-sorted rows up f)
         ∙ read-back rows (sorted by rows) (all-sorted by (HasOwn cmp total rows) rows (own-entries cmp total rows up)) n
-        ∙ ap (λ l. map Some (take n l)) (sorted_by_entry (λ e. e.1) (row_cmp order) (λ a b. cmp a.0 b.0) rows
+        ∙ ap (λ l. map Some (take n l)) (sorted_by_place (λ e. e.1) (row_cmp order) (λ a b. cmp a.0 b.0) rows
         (by-names rows up))
 
   -- The delta law: places follow the rows of some names.
