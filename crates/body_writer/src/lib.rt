@@ -1,5 +1,5 @@
-//! The canonical buffers of columns of any layout, and the body of a batch, written from values or straight from checked
-//! columns.
+//! The canonical buffers of columns of any layout, and the body of a batch, written from values or straight from
+//! checked columns.
 //!
 //! `specs/Columns.antt` says what the nodes and buffers of a column are, `specs/Body.antt` how buffers are laid out,
 //! `specs/Batch.antt` what the body of a batch is and which rows can be one, `specs/Law.antt` that a column that is

@@ -70,8 +70,8 @@ fn read_columns(
 }
 
 /// The columns of these layouts that have these rows, in order. No column has a dictionary: where one of a batch had,
-/// each of its cells is now a value of its own, so that they can take more bytes than the batches did. The error is that
-/// memory was refused.
+/// each of its cells is now a value of its own, so that they can take more bytes than the batches did. The error is
+/// that memory was refused.
 pub fn merge_rows(
     alloc: Global,
     layouts: &[LayoutTree],

@@ -15,8 +15,8 @@ use std::alloc::{AllocError, Global};
 use values::{Kind, Layout, Value};
 use view_lang::{Comparison, Filter, Operand, Test};
 
-/// The truth of a comparison of each cell of a column with a constant: by code where the column has a dictionary, and by
-/// lanes where its cells are whole numbers.
+/// The truth of a comparison of each cell of a column with a constant: by code where the column has a dictionary, and
+/// by lanes where its cells are whole numbers.
 pub fn compare(
     alloc: Global,
     column: &Column,

@@ -233,8 +233,8 @@ fn counts_with(alloc: Global, column: &Column, constant: i128) -> Result<[usize;
     ])
 }
 
-/// Whether comparisons with the numbers just below and at the least number of a width, and at and just above the greatest,
-/// hold of as many cells as they should.
+/// Whether comparisons with the numbers just below and at the least number of a width, and at and just above the
+/// greatest, hold of as many cells as they should.
 fn holds_at_limits(
     alloc: Global,
     width: IntWidth,

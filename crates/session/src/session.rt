@@ -276,7 +276,8 @@ impl Session {
     }
 
     /// Undoes the latest accepted edit, of any feed, that isn't undone; the last `MAX_UNDO_DEPTH` can be.
-    /// `NothingToUndo` where there is none. Feeds don't change. After `Memory` no row has changed, but views may be stale.
+    /// `NothingToUndo` where there is none. Feeds don't change. After `Memory` no row has changed, but views may be
+    /// stale.
     pub fn undo(&mut self) -> Result<(), Fault>
         ensures step { IsStep self.old (λ s t. UndoTo s result t) self.new }
         ensures config { config_of self.new ≡ config_of self.old }

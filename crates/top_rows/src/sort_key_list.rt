@@ -124,8 +124,8 @@ impl SortKeyList {
         Ok(SortKeyList::with_two(first, second, others))
     }
 
-    /// The sort keys that a list holds. The list's memory is given back, but where there are further keys than the first
-    /// two.
+    /// The sort keys that a list holds. The list's memory is given back, but where there are further keys than the
+    /// first two.
     pub fn from_list(alloc: Global, keys: Vec<SortKey>) -> SortKeyList
         ensures { result ≡ keys.items }
     {

@@ -66,8 +66,8 @@ impl fmt::Display for FaultLocation {
     }
 }
 
-/// Finds where the configuration of a text is refused: the first part that is, in the order in which `read_config` reads
-/// them; none where it is accepted.
+/// Finds where the configuration of a text is refused: the first part that is, in the order in which `read_config`
+/// reads them; none where it is accepted.
 #[tactic(auto, unfolding(crate::specs::Config::text_means))]
 pub fn find_fault(alloc: Global, text: &str) -> Result<Option<FaultLocation>, AllocError>
     ensures { IfOk result (λ found. is_some found ≡ is_err (text_means text.now)) }

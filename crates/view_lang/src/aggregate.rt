@@ -49,7 +49,8 @@ fn sum_type(added: &ColType) -> ColType
     }
 }
 
-/// The column of this name that shows an aggregate of joined rows, whose columns are `main` and `side`, grouped by `by`.
+/// The column of this name that shows an aggregate of joined rows, whose columns are `main` and `side`, grouped by
+/// `by`.
 pub(crate) fn aggregate_field(
     alloc: Global,
     main: &[LogicalField],
