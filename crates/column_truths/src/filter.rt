@@ -101,7 +101,7 @@ fn repeated(alloc: Global, truth: bool, len: usize) -> Result<Truths, AllocError
     Ok(truths)
 }
 
-/// The truth of a filter on each of the `rows` rows of some columns, to which all columns belong that it names.
+/// The truth of a filter on each of the `rows` rows of some columns, which include all columns that it names.
 #[cycle(truths)]
 #[tactic(auto, using(crate::proofs::RowLemmas::row_laws, view_lang::proofs::Truths::part_smaller))]
 pub fn truths(

@@ -3,7 +3,7 @@
 //! bitmaps.
 //!
 //! `specs/Compared.antt` says what a comparison of a column gives, `specs/RowTruths.antt` what a filter does;
-//! `specs/Spans.antt` has the runs of numbers for which a comparison with a constant holds.
+//! `specs/Spans.antt` has the ranges of numbers for which a comparison with a constant holds.
 #![tactic(auto)]
 
 mod by_cell;
