@@ -11,7 +11,7 @@ use values::{ColType, IntWidth, LogicalField};
 /// What is shown of a group.
 #[derive(Clone, Copy, Debug, PartialEq, Eq)]
 pub enum Aggregate {
-    /// The grouping column at this place in `by`.
+    /// The grouping column at this index of `by`.
     Key(usize),
     /// How many rows the group has.
     Count,
