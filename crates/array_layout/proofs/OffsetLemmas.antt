@@ -79,7 +79,7 @@ is_rising-last o offsets (suc n) i all below = elim (cases_lt n i) [
       subst P next (omega (arith, before, step))
 ]
 
--- offsets that pass the check are fit to cut texts
+-- offsets that pass the check are valid for texts
 pub are_fit : (o : OffsetWidth) (offsets : List ℕ) (n limit : ℕ) → offset_bytes o * (n + 1) ≤ length offsets
     → is_rising o offsets n ≡ true → offset_at o offsets n ≤ limit → AreFit o offsets n limit
 are_fit o offsets n limit room rising last = record {

@@ -1,4 +1,4 @@
--- The rows of the format's own examples, as the definitions answer them.
+-- The rows of the format's own examples, as the definitions give them.
 use Rattle.std.specs.Prelude.{◌≡◌, ℕ, pos, neg_ℤ, ◌-◌, ◌^◌, true, false, List, [], ◌∷◌, Some, Ok, Err, refl}
 use Rattle.std.specs.Str.{is_utf8, chars}
 use Rattle.std.proofs.Math.Utf8.{encode}

@@ -32,7 +32,7 @@ pub kid_sound :
 kid_sound b ts k e d is below all =
     kid_within (IsSound b) (AreSound b) (λ t rest h. h.0) (λ t rest h. h.1) ts k e d is below all
 
--- checking: what is left of the children decides the whole
+-- checking: what remains of the children decides the whole
 pub below_start :
     (b : List ℕ) (p : ArrayData) (kids : Roses ArrayData) → IsValid (own_faults b p (first_len kids))
     → Decides (faults_below b kids) (faults_in b (node p kids))
@@ -67,7 +67,7 @@ below_end b ts k w all left =
     let done : Decides (faults_below b none) w = subst P (kids_end ts k all) left in
     done.valid tt
 
--- the facts: once those of the children that are left are known, so are those of the array
+-- the facts: once those of the remaining children are known, so are those of the array
 pub sound_start :
     (b : List ℕ) (p : ArrayData) (kids : Roses ArrayData) → IsPlaced b (node p kids)
     → (0 < p.validity.len → p.len ≤ 8 * p.validity.len)

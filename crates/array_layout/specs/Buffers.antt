@@ -1,4 +1,4 @@
--- What stands in the buffers of an array (Arrow Columnar Format, "Validity bitmaps", "Fixed-Size Primitive Layout",
+-- What the buffers of an array hold (Arrow Columnar Format, "Validity bitmaps", "Fixed-Size Primitive Layout",
 -- "Variable-size Binary Layout", "Variable-size List Layout"). Buffers are lists of bytes.
 use Rattle.std.specs.Prelude.{
   ℕ,

@@ -69,13 +69,13 @@ abbrev pub indexed : List Datum → ℤ → Reading Datum
 indexed values (pos n) = must fault.DictionaryIndex (slice_get values n)
 indexed values (negsuc n) = Err (one fault.DictionaryIndex)
 
--- a valid slot of an array of indices, which stands for a value of the dictionary
+-- a valid slot of an array of indices, which refers to a value of the dictionary
 abbrev pub coded_by : Layout → List Datum → List ℕ → ℕ → Reading Datum
 coded_by (Int w s) values indices i = indexed values (number_at s (bytes_in w) indices i)
 coded_by l values indices i = Err (one fault.DictionaryIndex)
 
 -- A valid slot of an array of values, by layout: `item` reads the slots of the first child, `row` those of all children
--- at one place.
+-- at one index.
 abbrev pub value_by : Layout → List ℕ → ArrayData → (ℕ → Reading Datum) → (ℕ → Reading (List Datum)) → ℕ → Reading Datum
 value_by Booleans body p item row i = Ok (truth (bit_at (bytes_of body p.values) i))
 value_by (Int w s) body p item row i = Ok (whole (number_at s (bytes_in w) (bytes_of body p.values) i))
@@ -117,6 +117,6 @@ len_of (node p kids) = p.len
 unfoldable pub cells : List ℕ → Rose ArrayData → Reading (List Datum)
 cells body t = each (λ i. cell body t i) 0 (len_of t)
 
--- a column: its cells, or the faults of the body stage that stand in it
+-- a column: its cells, or its faults of the body stage
 unfoldable pub column_of : List ℕ → Rose ArrayData → Reading (List Datum)
 column_of body t = faults_in body t >>= λ _. cells body t

@@ -1,5 +1,5 @@
--- Where the arrays of a batch lie: Arrow Columnar Format, "RecordBatch message". Nodes and buffers stand in preorder
--- over the fields, so the place of each is a count of those before it. docs/ARCHITECTURE.md has a picture of it.
+-- Where the arrays of a batch lie: Arrow Columnar Format, "RecordBatch message". Nodes and buffers are in preorder over
+-- the fields, so the index of each is a count of those before it. docs/ARCHITECTURE.md has a picture of it.
 use Rattle.std.specs.Prelude.{ℕ, pos, ◌+◌, List, Option, None, Some, slice_get, slice_range, unwrap_or}
 use Rattle.values.specs.Rose.{Rose, node, Roses, none, more, rose_size}
 use Rattle.values.specs.declared.layout.Layout.{Layout}
@@ -33,7 +33,7 @@ node_at nodes n = unwrap_or (slice_get nodes n) (record { length = 0; nulls = po
 abbrev pub bytes_of : List ℕ → BufferRange → List ℕ
 bytes_of body s = slice_range body s.from (s.from + s.len)
 
--- "Buffer Listing for Each Layout": how many buffers an array has of its own
+-- "Buffer Listing for Each Layout": how many buffers an array has without its children
 abbrev pub own_ranges : Layout → ℕ
 own_ranges Booleans = 2
 own_ranges (Int w s) = 2
@@ -82,7 +82,7 @@ data_at nodes ranges n b l = record {
   values = values_at l ranges b;
 }
 
--- and with these values, which its slots are indices of
+-- and with the values of a dictionary, to which its slots are indices
 abbrev pub with_dictionary : Option DictionaryValues → ArrayData → ArrayData
 with_dictionary w p = record {
   layout = p.layout;
@@ -105,7 +105,7 @@ abbrev mutual
   placed_all nodes ranges n b (more t ts) =
       more (placed nodes ranges n b t) (placed_all nodes ranges (n + rose_size t) (b + ranges_in t) ts)
 
--- how the values of an array's cells lie: where it has a dictionary, those of the dictionary
+-- the layout of the values of an array's cells: where it has a dictionary, that of its values
 abbrev pub layout_by : Option DictionaryValues → Layout → Layout
 layout_by None l = l
 layout_by (Some w) l = w.layout

@@ -1,5 +1,4 @@
--- Which faults stand in an array's buffers, by its length and its number of nulls: 22 BufferShort, 23 NullCount and 24
--- Offsets.
+-- The faults of an array's buffers, by its length and its number of nulls: 22 BufferShort, 23 NullCount and 24 Offsets.
 use Rattle.std.specs.Prelude.{
   ℕ,
   ℤ,
@@ -43,7 +42,8 @@ use Rattle.array_layout.specs.declared.array.ArrayData.{ArrayData}
 use Rattle.array_layout.specs.Placing.{bytes_of, layouts_of}
 use Rattle.array_layout.specs.Buffers.{zeros, offset_at, is_rising}
 
--- Validity may be left out where nothing is null; else it has a bit a slot, and as many are 0 as are said to be null.
+-- Validity may be left out where nothing is null; else it has a bit for each slot, and as many are 0 as the null count
+-- says.
 unfoldable pub validity_of : List ℕ → ℕ → ℤ → Reading (Unit {0})
 validity_of bits n nulls =
     if length bits == 0 then (if int_eq nulls (pos 0) then Ok tt else Err (one fault.NullCount))
@@ -51,11 +51,11 @@ validity_of bits n nulls =
     else if int_eq nulls (pos (zeros bits n)) then Ok tt
     else Err (one fault.NullCount)
 
--- a bit a slot
+-- a bit for each slot
 unfoldable pub bits_of : List ℕ → ℕ → Reading (Unit {0})
 bits_of bits n = if nat_lt (8 * length bits) n then Err (one fault.BufferShort) else Ok tt
 
--- w bytes a slot
+-- w bytes for each slot
 unfoldable pub slots_of : ℕ → List ℕ → ℕ → Reading (Unit {0})
 slots_of w bytes n = if nat_lt (length bytes) (w * n) then Err (one fault.BufferShort) else Ok tt
 
@@ -70,7 +70,7 @@ offsets_of o offsets n limit =
     then Ok tt
     else Err (one fault.Offsets)
 
--- the buffers beside validity, by layout; the offsets of a list point into `slots` slots
+-- the buffers but validity, by layout; the offsets of a list point into `slots` slots
 abbrev pub values_by : Layout → List ℕ → ArrayData → ℕ → Reading (Unit {0})
 values_by Booleans body p slots = bits_of (bytes_of body p.values) p.len
 values_by (Int w s) body p slots = slots_of (bytes_in w) (bytes_of body p.values) p.len
@@ -105,7 +105,7 @@ abbrev pub LiesIn : List ℕ → BufferRange → Type 0
 LiesIn body s = s.from + s.len ≤ length body
 
 -- What the checks of a message's metadata have shown before the body is looked at: an array's buffers lie within the
--- body, its length is below 2^31, and it has the children that its layout wants.
+-- body, its length is below 2^31, and it has the children that its layout requires.
 pub record IsArrayData (body : List ℕ) (p : ArrayData) (kids : Roses ArrayData) : Type 0 where
   pub validity : LiesIn body p.validity
   pub offsets : LiesIn body p.offsets
@@ -119,7 +119,7 @@ AreLong Struct n none = Unit {0}
 AreLong Struct n (more (node p kids) ts) = (n ≤ p.len) × AreLong Struct n ts
 AreLong l n kids = Unit {0}
 
--- an array and all arrays below it are so, and the children of structs are long enough
+-- the same of an array and all arrays below it, and the children of structs are long enough
 abbrev mutual
   pub IsPlaced : List ℕ → Rose ArrayData → Type 0
   IsPlaced body (node p kids) = IsArrayData body p kids × AreLong p.layout p.len kids × ArePlaced body kids
@@ -128,13 +128,13 @@ abbrev mutual
   ArePlaced body none = Unit {0}
   ArePlaced body (more t ts) = IsPlaced body t × ArePlaced body ts
 
--- the offsets of n slots are fit to cut what they point into
+-- the offsets of n slots are valid for the values into which they point
 pub record AreFit (o : OffsetWidth) (offsets : List ℕ) (n limit : ℕ) : Type 0 where
   pub room : offset_bytes o * (n + 1) ≤ length offsets
   pub rising : (i : ℕ) → i < n → offset_at o offsets i ≤ offset_at o offsets (i + 1)
   pub within : (i : ℕ) → i < n → offset_at o offsets (i + 1) ≤ limit
 
--- the buffers beside validity are long enough, and the offsets are fit
+-- the buffers but validity are long enough, and the offsets are valid
 abbrev pub HasRoom : Layout → List ℕ → ArrayData → ℕ → Type 0
 HasRoom Booleans body p slots = p.len ≤ 8 * p.values.len
 HasRoom (Int w s) body p slots = bytes_in w * p.len ≤ p.values.len

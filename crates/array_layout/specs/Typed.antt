@@ -1,4 +1,4 @@
--- The values of an array's dictionary, and of the dictionaries below it, are of the layouts beside them.
+-- The values of an array's dictionary, and of the dictionaries below it, are of the layouts that are given with them.
 use Rattle.std.specs.Prelude.{All, Option, None, Some}
 use Rattle.values.specs.Layouts.{Holds}
 use Rattle.values.specs.Rose.{Rose, node, Roses, none, more}

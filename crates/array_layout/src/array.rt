@@ -7,7 +7,7 @@ use dictionaries::Dictionary;
 use std::marker::Model;
 use values::Layout;
 
-/// The length of an array, in slots, and the null count that is claimed for it: Message.fbs, struct `FieldNode`.
+/// The length of an array, in slots, and its null count as the header claims it: Message.fbs, struct `FieldNode`.
 #[derive(Clone, Copy, Debug, PartialEq, Eq)]
 pub struct FieldNode {
     /// The number of slots.
@@ -16,7 +16,7 @@ pub struct FieldNode {
     pub nulls: i64,
 }
 
-/// A buffer's place in the body, in bytes: Message.fbs, struct `Buffer`.
+/// Where a buffer lies in the body, in bytes: Message.fbs, struct `Buffer`.
 #[derive(Clone, Copy, Debug, PartialEq, Eq)]
 pub struct BufferRange {
     /// Where the buffer begins, in bytes from the start of the body.
@@ -25,7 +25,7 @@ pub struct BufferRange {
     pub len: usize,
 }
 
-/// How many buffers an array of this layout has of its own.
+/// How many buffers an array of this layout has, without those of its children.
 pub fn own_ranges(layout: Layout) -> usize
     ensures exact { result ≡ own_ranges layout }
     ensures bound { result ≤ 3 }
@@ -44,12 +44,12 @@ pub struct DictionaryValues {
     pub values: Dictionary,
 }
 
-/// What an array has of its own: its layout, its node, and where its buffers lie in the body.
+/// An array without its children: its layout, its node, and where its buffers lie in the body.
 #[derive(Drop)]
 pub struct ArrayData {
-    /// How its slots lie. Where it has a dictionary, this is the layout of the indices.
+    /// The layout of its slots. Where it has a dictionary, this is the layout of the indices.
     pub layout: Layout,
-    /// The dictionary whose values its slots stand for, as it is for this batch.
+    /// The dictionary to which its slots are indices, as it is for this batch.
     pub dictionary: Option<DictionaryValues>,
     /// The number of slots.
     pub len: usize,

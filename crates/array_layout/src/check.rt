@@ -137,7 +137,7 @@ fn first_len(children: &[Array]) -> usize
     }
 }
 
-/// Checks the buffers beside validity of one array.
+/// Checks the buffers of one array but validity.
 fn check_values(body: &[u8], own: &ArrayData, slots: usize) -> Result<(), StreamFault>
     requires offsets { LiesIn body.now own.now.offsets }
     requires values { LiesIn body.now own.now.values }

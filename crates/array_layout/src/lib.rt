@@ -1,8 +1,8 @@
 //! Arrays over the body of a record batch: where their buffers lie, and whether the buffers are sound.
 //!
 //! An [`Array`] is a tree, as its type is. `specs/Placing.antt` says where the buffers of each array lie,
-//! `specs/Buffers.antt` what stands in them, `specs/Sound.antt` which faults stand in them, `specs/Cells.antt` what the
-//! array's cells are, and `specs/Typed.antt` which values its dictionaries hold.
+//! `specs/Buffers.antt` what they hold, `specs/Sound.antt` which faults they have, `specs/Cells.antt` what the array's
+//! cells are, and `specs/Typed.antt` which values its dictionaries hold.
 #![tactic(auto)]
 
 mod array;

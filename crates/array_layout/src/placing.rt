@@ -63,8 +63,8 @@ fn values_at(layout: Layout, ranges: &[BufferRange], first: usize) -> BufferRang
     }
 }
 
-/// The array whose node and first buffer a cursor is at, without its children. `dictionary` is what its slots are
-/// indices of, if they are.
+/// The array whose node and first buffer a cursor is at, without its children. `dictionary` has the values to which its
+/// slots are indices, if they are.
 pub fn array_at(
     nodes: &[FieldNode],
     ranges: &[BufferRange],

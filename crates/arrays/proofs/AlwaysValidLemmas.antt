@@ -1,4 +1,4 @@
--- No cell of an array that needs no check is at fault.
+-- No cell of an array that needs no check has a fault.
 use Rattle.std.proofs.Common.{
   ◌≡◌,
   ℕ,

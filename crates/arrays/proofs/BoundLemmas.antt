@@ -192,7 +192,7 @@ bounds_items f r w bare n m o offsets fit items h = record {
       (h.each small i below) small;
 }
 
--- what the buffers of a list have room for
+-- how many items the buffers of a list can have
 list_room :
     (b : List ℕ) (p : ArrayData) (kids : Roses ArrayData) (o : OffsetWidth) → IsSound b (node p kids)
     → p.layout ≡ Listed o → 0 < p.len → AreFit o (bytes_of b p.offsets) p.len (first_len kids)
@@ -277,7 +277,7 @@ list_bounded b p (node q kids ∷ ts) e d o w bare r sound listed is some items 
 
 pub ruleset list_laws = (list_offsets, list_rising, list_child, child_sound, child_smaller)
 
--- over a struct's children: what the sum so far and the children that are left weigh
+-- over a struct's children: what the sum so far and the remaining children weigh
 pub record Covers (s : ℕ) (b : List ℕ) (rest kids : Roses ArrayData) (n : ℕ) : Type 0 where
   pub bare : s ≤ max_cell_weight → 1 + null_weights (layouts_of kids) ≤ s + null_weights (layouts_of rest)
   pub each : s ≤ max_cell_weight → (i : ℕ) → i < n → 1 + weight_beside b kids i ≤ s + weight_beside b rest i

@@ -1,4 +1,4 @@
--- The cells of a column whose buffers and cells are good.
+-- The cells of a column whose buffers and cells are valid.
 use Rattle.std.proofs.Common.{
   ◌≡◌,
   ℕ,
@@ -139,7 +139,7 @@ capped_says r w is = record {
   bound = grind arith;
 }
 
--- what is said of a cell's weight
+-- what is known of a cell's weight
 pub cell-weighed :
     (r : ℕ) (b a : List ℕ) (t : Rose ArrayData) (ls : Rose Layout) (ds : List Datum) (i : ℕ) → a ≡ b → layout_of t ≡ ls
     → valid_of (cells b t) ≡ ds

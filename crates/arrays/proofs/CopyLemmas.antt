@@ -1,4 +1,4 @@
--- How cells that are good are copied.
+-- How valid cells are copied.
 use Rattle.std.proofs.Common.{
   ◌≡◌,
   ℕ,
@@ -82,7 +82,7 @@ use Rattle.arrays.proofs.ValidationLemmas.{
   kid_long,
 }
 
--- a good cell that isn't null is a good slot
+-- a valid cell that isn't null is in a valid slot
 valid_slot :
     (b : List ℕ) (p : ArrayData) (here : ℕ → Reading Datum) (beside : ℕ
     → Reading (List Datum)) (o : Option DictionaryValues) (i : ℕ)
@@ -109,7 +109,7 @@ valid_encoded b p here beside w i there is valid = valid_slot b p here beside (S
 
 pub ruleset null_laws = (valid_value, valid_encoded, index_room)
 
--- room by layout
+-- the bytes of a slot, by layout
 pub bits_room : (b : List ℕ) (p : ArrayData) (kids : Roses ArrayData) → IsSound b (node p kids) → p.layout ≡ Booleans
     → p.len ≤ 8 * p.values.len
 bits_room b p kids sound is = let P : Layout → Type 0 = λ l. HasRoom l b p (first_len kids) in subst P is sound.0.room
@@ -137,7 +137,7 @@ fixed_room b p kids w i sound is below =
     let step : w * (i + 1) ≡ w * i + w = grind arith in
     omega (arith, room, most, step)
 
--- what a good value says, by layout
+-- what holds of a valid value, by layout
 abbrev value : Layout → List ℕ → ArrayData → Roses ArrayData → ℕ → Reading Datum
 value l b p kids i = value_by l b p (λ j. first_cell b kids j) (λ j. row b kids j) i
 
@@ -263,7 +263,7 @@ items_valid b (t ∷ ts) e d i n is some h = let P : Rose ArrayData
 
 pub ruleset list_laws = (list_fit, list_child, child_sound, child_within, child_smaller, items_are, items_valid)
 
--- cells that are left to read
+-- cells that remain to be read
 pub left_here : {X : Type 0} (f : ℕ → Reading X) (i n : ℕ) → i < n → IsValid (each f i (n - i)) → IsValid (f i)
 left_here f i n below valid =
     let P : Reading (List _) → Type 0 = λ m. IsValid m in

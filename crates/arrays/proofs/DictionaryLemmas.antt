@@ -1,4 +1,4 @@
--- What slots that stand for values of a dictionary read as.
+-- What is read from slots that are indices into a dictionary.
 use Rattle.std.proofs.Common.{
   ◌≡◌,
   ℕ,
@@ -192,7 +192,7 @@ missing_weighs l o m n r is missing own h =
 
 pub ruleset weight_laws = (found_weighs, missing_weighs)
 
--- a good slot has a value
+-- a valid slot has a value
 pub encoded_some : (o : Option Datum) (m : Reading Datum) → must fault.DictionaryIndex o ≡ m → IsValid m
     → (d : Datum) × (o ≡ Some d) × (m ≡ Ok d)
 encoded_some None m is valid = absurd (subst IsValid (sym is) valid)

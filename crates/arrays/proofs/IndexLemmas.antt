@@ -81,7 +81,7 @@ bound-below : (s : Bool) (w n x : ℕ) → x < index_bound s w n → x < n
 bound-below true w n x h = min-left n (2 ^ (8 * w - 1)) x h
 bound-below false w n x h = h
 
--- from the bound on it is no index
+-- from the bound on it isn't an index
 number-past : (s : Bool) (w x : ℕ) (ds : List Datum) → x < 2 ^ (8 * w) → index_bound s w (length ds) ≤ x
     → Err (one fault.DictionaryIndex) ≡ indexed ds (number_by s w x)
 number-past true w x ds small h = elim (cases_lt x (2 ^ (8 * w - 1))) [
@@ -106,7 +106,7 @@ below-found s w x b ds o is h found =
 
 pub ruleset reading = (past-none, below-found)
 
--- how a slot with such a number is judged
+-- the fault of a slot with such a number
 
 bounded_valid : (ds : List Datum) (n : ℕ) → n < length ds → IsValid (indexed ds (pos n))
 bounded_valid ds n below =

@@ -99,7 +99,7 @@ stands-back f i (suc m) n c h =
     let Q : ℕ → Type 0 = λ k. FailsWith (each f k n) c in
     subst P (sym z) (both_right cons (f i) (each f (i + 1) (m + n)) c (stands-back f (i + 1) m n c (subst Q e h)))
 
--- the same of what a loop has left
+-- the same of what a loop still has to do
 pub range_step :
     {X W : Type 0} (f : ℕ → Reading X) (at end to : ℕ) (w : Reading W) → at ≤ end → end ≤ to
     → IsValid (each f at (end - at))
@@ -125,7 +125,7 @@ range_fault f at end to w c up in_range stands left =
     let S : ℕ → Type 0 = λ k. FailsWith (each f at k) c in
     left.fault c (subst S n (stands-front f at (end - at) (to - end) c stands))
 
--- what is so of each reading is so of all
+-- what holds of each reading holds of all
 pub each-valid : {X : Type 0} (f : ℕ → Reading X) (i n : ℕ) → ((k : ℕ) → i ≤ k → k < i + n → IsValid (f k))
     → IsValid (each f i n)
 unfolding each
@@ -196,7 +196,7 @@ unfolding where_valid
 slot_fault bits f i c h stands =
     let P : Reading Datum → Type 0 = λ m. FailsWith m c in subst P (sym (valid_here (is_null bits i) (f i) h)) stands
 
--- a loop's fault, by what it has left
+-- a loop's fault, by what it still has to do
 pub each_fault :
     {X W : Type 0} (f : ℕ → Reading X) (i n : ℕ) (w : Reading W) (c : StreamFault) → Decides (each f i (n - i)) w
     → i < n → FailsWith (f i) c → FailsWith w c

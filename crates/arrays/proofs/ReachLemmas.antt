@@ -1,4 +1,4 @@
--- A fault stands in a cell exactly where a slot that it reaches has it.
+-- A cell has a fault exactly where a slot that it reaches has it.
 use Rattle.std.proofs.Common.{
   ◌≡◌,
   ◌⊎◌,
@@ -120,7 +120,7 @@ each_stands f i (suc n) (suc k) c below h =
     both_right cons (f i) (each f (i + 1) n) c
     (each_stands f (i + 1) n k c (omega arith) (subst (λ (m : ℕ). FailsWith (f m) c) same h))
 
--- one level, from the faults that stand
+-- one level, from the faults
 value_found :
     (l : Layout) (b : List ℕ) (p : ArrayData) (here : ℕ → Reading Datum) (beside : ℕ
     → Reading (List Datum)) (i : ℕ) (c : StreamFault)

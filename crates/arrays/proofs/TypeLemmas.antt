@@ -136,7 +136,7 @@ slot_fits w s b p i small =
     let values : AreBytes (bytes_of b p.values) = small_take _ _ (small_drop _ b small) in
     number_fits w s _ (little_from-lt 0 (bytes_in w) _ (small_drop (bytes_in w * i) (bytes_of b p.values) values))
 
--- what a good reading of a slot says of its value
+-- what a valid reading of a slot says of its value
 nullable : (t : Rose Layout) → Holds t null
 nullable (node Booleans kids) = tt
 nullable (node (Int w s) kids) = tt

@@ -186,7 +186,7 @@ items-alike b t i n s r even is e =
     e ∙ ap (λ k. capped (k * n + 5)) is ∙ capped-times w n
     ∙ ap (λ k. capped (5 + k)) (sym (sum-alike (weight_at b t) w i n (λ k. uniform-weight b t k even)))
 
--- numbers of 64 bits that stop at the greatest
+-- numbers of 64 bits that saturate
 pub saturated-sum : (x m s : ℕ) → m ≡ min x 18446744073709551615 → s ≡ min (m + 5) 18446744073709551615
     → capped s ≡ capped (x + 5)
 unfolding capped

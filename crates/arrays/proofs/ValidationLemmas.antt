@@ -85,7 +85,7 @@ use Rattle.arrays.proofs.DictionaryLemmas.{index_rooms}
 use Rattle.arrays.proofs.RangeLemmas.{buffer_long, each-valid, each-same, each-fault, valid-at, fault-at, slot_fault}
 use Rattle.arrays.proofs.TextLemmas.{offsets_rise, offsets_end, fit_less}
 
--- what a layout says of the buffers
+-- what a layout requires of the buffers
 pub text_fit :
     (b : List ℕ) (p : ArrayData) (kids : Roses ArrayData) (o : OffsetWidth) (i : ℕ) → IsSound b (node p kids)
     → p.layout ≡ Utf8 o → i < p.len
@@ -499,7 +499,7 @@ passes_indices r b p kids w bits indices i n is bits_are indices_are h =
     (cell b (node p kids)) i n (λ k low high. ap (F k) (sym is)))
     (subst Q indices_are (subst P bits_are h))
 
--- what the buffers of a sound array have room for
+-- how many slots the buffers of a sound array have
 pub bits_room : (b : List ℕ) (p : ArrayData) (kids : Roses ArrayData) (bits : List ℕ) (n : ℕ) → IsSound b (node p kids)
     → bits ≡ bytes_of b p.validity → n ≤ p.len → 0 < length bits → n ≤ 8 * length bits
 bits_room b p kids bits n sound are less some =

@@ -1,4 +1,4 @@
--- What a valid slot reads as, viewed where it lies.
+-- The value as which a valid slot is read, viewed where it lies.
 use Rattle.std.proofs.Common.{◌≡◌, ℕ, ℤ, List, ◌+◌, ◌<◌, length, refl, ap, sym, subst, ◌∙◌, arith}
 use Rattle.std.specs.Prelude.{Ok, Err, true, get_or}
 use Rattle.std.specs.Str.{is_utf8}

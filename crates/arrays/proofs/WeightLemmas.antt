@@ -77,7 +77,7 @@ pub capped_here : (a : ℕ) → capped (capped a) ≡ capped a
 unfolding capped
 capped_here a = grind arith
 
--- one number more of a sum that is being made
+-- one number more of a sum
 pub sum_more : (s x t a r w : ℕ) → x ≡ capped a → t ≡ capped (s + x) → capped (s + (a + r)) ≡ w → capped (t + r) ≡ w
 sum_more s x t a r w is sum left =
     let P : ℕ → Type 0 = λ k. capped (k + r) ≡ w in

@@ -1,4 +1,4 @@
--- Arrays in which no slot can be at fault, so that none need be validated.
+-- Arrays in which no slot can have a fault, so that none need be validated.
 use Rattle.std.specs.Prelude.{Bool, true, false, ◌&&◌, Option, None, Some}
 use Rattle.values.specs.Rose.{Rose, node, Roses, none, more}
 use Rattle.values.specs.declared.layout.Layout.{Layout}
@@ -26,7 +26,7 @@ is_always_valid_layout (Binary o) = true
 is_always_valid_layout (Listed o) = true
 is_always_valid_layout Struct = true
 
--- an array of this layout, without a dictionary: an index may be at fault
+-- an array of this layout, without a dictionary: an index may be out of range
 abbrev pub is_always_valid_data : Option DictionaryValues → Layout → Bool
 is_always_valid_data None l = is_always_valid_layout l
 is_always_valid_data (Some w) l = false

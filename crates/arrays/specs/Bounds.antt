@@ -1,4 +1,4 @@
--- Bounds on the weights of an array's slots. A bound above the limit of a cell says nothing.
+-- Bounds on the weights of an array's slots. A bound above the limit of a cell has no meaning.
 use Rattle.std.specs.Prelude.{ℕ, ◌<◌, ◌≤◌}
 use Rattle.values.specs.Limits.{max_cell_weight}
 

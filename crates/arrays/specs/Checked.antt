@@ -17,7 +17,7 @@ column_code =
     (λ c. (c.layouts, c.cells))
     (λ p. record { layouts = p.0; cells = p.1 }) (λ _. refl)
 
--- the values where no fault stands
+-- the values where there is no fault
 abbrev pub valid_of : Reading (List Datum) → List Datum
 valid_of (Ok ds) = ds
 valid_of (Err fs) = []

@@ -1,4 +1,4 @@
--- Cells by ranges of slots: of a struct, child by child. A fault stands there exactly where it stands row by row.
+-- Cells by ranges of slots: of a struct, child by child. They have a fault exactly where the cells of the rows have it.
 use Rattle.std.specs.Prelude.{ℕ, List, Ok, if◌then◌else◌}
 use Rattle.values.specs.Reading.{Reading, each, both, second}
 use Rattle.values.specs.Datum.{Datum, null}

@@ -1,5 +1,5 @@
 -- Which slots a cell reaches: itself, and where it is valid, of a list the items between its offsets, and of a struct
--- the children's slots at the same place. A slot under a null is not reached (Arrow Columnar Format, "Struct Layout",
+-- the children's slots with the same index. A slot under a null is not reached (Arrow Columnar Format, "Struct Layout",
 -- "Variable-size List Layout").
 use Rattle.std.specs.Prelude.{
   ◌≡◌,
@@ -95,7 +95,7 @@ HasFault body (node p kids) i c = IsValid body p i × SlotFault p.dictionary bod
 abbrev pub Found : List ℕ → Rose ArrayData → ℕ → StreamFault → Type 0
 Found body t i c = (u : Rose ArrayData) × (j : ℕ) × Reaches body t i u j × HasFault body u j c
 
--- a fault stands in a cell exactly where a slot that it reaches has it
+-- a cell has a fault exactly where a slot that it reaches has it
 abbrev pub FaultsAreReached : Type 0
 FaultsAreReached = (body : List ℕ) (t : Rose ArrayData) (i : ℕ) (c : StreamFault) → FailsWith (cell body t i) c
     → Found body t i c

@@ -15,7 +15,7 @@ use Rattle.values.specs.declared.layout.Layout.TheVariants.{
 use Rattle.array_layout.specs.declared.array.DictionaryValues.{DictionaryValues}
 use Rattle.array_layout.specs.declared.array.ArrayData.{ArrayData}
 
--- a bit or bytes of a fixed width a slot
+-- a bit, or bytes of a fixed width, for each slot
 abbrev pub is_fixed : Layout → Bool
 is_fixed Booleans = true
 is_fixed (Int w s) = true

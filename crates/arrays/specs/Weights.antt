@@ -41,7 +41,7 @@ abbrev pub extent : OffsetWidth → List ℕ → ℕ → ℕ
 extent o offsets i = offset_at o offsets (i + 1) - offset_at o offsets i
 
 -- A valid slot of an array of values, by layout: `here` weighs the slots of the first child, `beside` those of all
--- children at one place.
+-- children at one index.
 abbrev pub weight_by : Layout → List ℕ → ArrayData → ℕ → (ℕ → ℕ) → (ℕ → ℕ) → ℕ → ℕ
 weight_by (Utf8 o) body p bare here beside i = 5 + extent o (bytes_of body p.offsets) i
 weight_by (Binary o) body p bare here beside i = 5 + extent o (bytes_of body p.offsets) i
@@ -50,12 +50,12 @@ weight_by (Listed o) body p bare here beside i =
 weight_by Struct body p bare here beside i = 1 + beside i
 weight_by l body p bare here beside i = bare
 
--- A slot that stands for a value of a dictionary weighs what the value weighs.
+-- A slot that is an index into a dictionary weighs what the value weighs.
 abbrev pub encoded_weight : Layout → Reading Datum → ℕ
 encoded_weight l (Ok d) = weight (node l none) d
 encoded_weight l (Err fs) = null_weight (node l none)
 
--- the value of a dictionary for which slot i of an array of indices stands
+-- the weight of the dictionary value to which slot i of an array of indices refers
 abbrev pub indexed_weight : DictionaryValues → List ℕ → ArrayData → ℕ → ℕ
 indexed_weight w body p i = encoded_weight w.layout (coded_by p.layout w.values (bytes_of body p.values) i)
 
@@ -98,7 +98,7 @@ list_weight o body p kids i =
 unfoldable pub capped : ℕ → ℕ
 capped n = if nat_lt n (max_cell_weight + 1) then n else max_cell_weight + 1
 
--- r is the weight w where that is within the limit of a cell, and else says that w is above it
+-- r is the weight w where that is within the limit of a cell, and else above the limit, as w is
 pub record Says (r w : ℕ) : Type 0 where
   pub exact : r ≤ max_cell_weight → r ≡ w
   pub heavy : max_cell_weight < r → max_cell_weight < w

@@ -1,6 +1,6 @@
 //! Bounds on the weights of an array's cells, found without weighing each of them.
 //!
-//! A bound may be too large. No buffer is gone through more than once.
+//! A bound may be too large. No buffer is read more than once.
 
 ghost use Rattle.std.specs.Prelude.{◌≡◌, ℕ, ◌+◌, ◌*◌, ◌<◌, ◌≤◌, None, length, get_or};
 ghost use Rattle.values.specs.Limits.{max_cell_weight};
@@ -48,7 +48,7 @@ fn longest_extent(offsets: &[u8], width: OffsetWidth, count: usize) -> usize
     longest
 }
 
-/// A bound for slots of so many bytes or items as their offsets say, each of which weighs at most `weight`.
+/// A bound for slots of as many bytes or items as their offsets say, each of which weighs at most `weight`.
 fn extents_bound(body: &[u8], own: &ArrayData, width: OffsetWidth, weight: u64) -> u64
     requires offsets { LiesIn body.now own.now.offsets }
     requires room { 0 < own.now.len
@@ -95,8 +95,7 @@ fn heaviest_slot(body: &[u8], own: &ArrayData, dictionary: &DictionaryValues) ->
     most
 }
 
-/// A bound for slots that stand for values of a dictionary. It goes through the values or the slots, whichever are
-/// fewer.
+/// A bound for slots that are indices into a dictionary. It reads the values or the slots, whichever are fewer.
 fn encoded_bound(body: &[u8], own: &ArrayData, dictionary: &DictionaryValues) -> u64
     requires lies { LiesIn body.now own.now.values }
     requires room { (i : ℕ) → i < own.now.len → HasIndex own.now.layout own.now i }
@@ -114,7 +113,7 @@ fn encoded_bound(body: &[u8], own: &ArrayData, dictionary: &DictionaryValues) ->
     }
 }
 
-/// A weight that no cell of the array is above.
+/// An upper bound on the weights of the array's cells.
 #[cycle(bound)]
 pub(crate) fn weight_bound(body: &[u8], array: &Array) -> u64
     requires { IsSound body.now array.now }
@@ -163,7 +162,7 @@ fn value_bound(body: &[u8], own: &ArrayData, children: &[Array]) -> u64
     }
 }
 
-/// A bound for lists: as if each item of the longest weighed as much as the heaviest.
+/// A bound for lists: as if the longest list had only items that weigh as much as the heaviest.
 #[cycle(bound)]
 #[tactic(auto, using(crate::proofs::BoundLemmas::list_laws))]
 fn list_bound(body: &[u8], own: &ArrayData, children: &[Array], width: OffsetWidth) -> u64
@@ -176,7 +175,7 @@ fn list_bound(body: &[u8], own: &ArrayData, children: &[Array], width: OffsetWid
     extents_bound(body, own, width, weight_bound(body, items))
 }
 
-/// A bound for structs: as if the heaviest cells of all children stood in one slot.
+/// A bound for structs: as if the heaviest cells of all children were in one slot.
 #[cycle(bound)]
 #[tactic(auto, using(crate::proofs::BoundLemmas::row_laws))]
 fn row_bound(body: &[u8], children: &[Array], count: usize) -> u64

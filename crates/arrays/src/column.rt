@@ -200,8 +200,8 @@ impl Column {
         weigh(&self.body, &self.root, i)
     }
 
-    /// A weight that no cell is above, exact or too large; the limit of a cell plus 1 where nothing is known. Finding
-    /// it goes through no buffer more than once.
+    /// An upper bound on the weights of the cells, exact or too large; the limit of a cell plus 1 where nothing is
+    /// known. It reads no buffer more than once.
     pub fn weight_bound(&self) -> u64
         ensures each { result ≤ max_cell_weight → All (λ d. weight self.now.layouts d ≤ result) self.now.cells }
         ensures most { result ≤ max_cell_weight + 1 }

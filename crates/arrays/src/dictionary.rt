@@ -1,4 +1,4 @@
-//! Dictionary-encoded slots: the dictionary value at the index that a slot holds. 26 DictionaryIndex.
+//! Dictionary-encoded slots: the dictionary value at the index in a slot. 26 DictionaryIndex.
 
 ghost use Rattle.std.specs.Prelude.{◌≡◌, ◌+◌, ◌*◌, ◌-◌, ◌^◌, ◌<◌, ◌≤◌, Err, IfOk, Ok, length};
 ghost use Rattle.std.specs.Option.{option_copied};
@@ -34,7 +34,7 @@ pub fn index_at(indices: &[u8], width: IntWidth, i: usize) -> usize
     }
 }
 
-/// The least number that is negative where it is read with its sign.
+/// The least unsigned number that is negative when it is read with a sign.
 fn sign_bit(width: IntWidth) -> usize
     ensures { result ≡ 2 ^ (8 * bytes_in width - 1) }
 {
@@ -46,7 +46,7 @@ fn sign_bit(width: IntWidth) -> usize
     }
 }
 
-/// The bound below which numbers, read without their signs, are indices of `count` values.
+/// The bound below which numbers, read without their signs, are indices into `count` values.
 fn index_bound(width: IntWidth, signed: bool, count: usize) -> usize
     ensures { result ≡ index_bound signed (bytes_in width) count }
 {
@@ -147,7 +147,7 @@ fn validate_nulls(bits: &[u8], from: usize, to: usize) -> Result<(), StreamFault
     Ok(())
 }
 
-/// Validates the indices of the slots from `from` to `to`. No value is looked at.
+/// Validates the indices of the slots from `from` to `to`. No value is read.
 #[tactic(auto, using(crate::proofs::IndexLemmas::by_layout))]
 pub(crate) fn validate_indices(
     bits: &[u8],

@@ -9,7 +9,7 @@ pub fn weight_law()
     ensures { WeighsAsRead }
 {}
 
-/// A fault stands in a cell exactly where a slot that it reaches has it.
+/// A cell has a fault exactly where a slot that it reaches has it.
 #[tactic(auto, using(crate::proofs::ReachLemmas::reaching))]
 pub fn reached_law()
     ensures found { FaultsAreReached }

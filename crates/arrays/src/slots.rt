@@ -40,7 +40,7 @@ pub(crate) fn bytes_slot<'a>(
     )
 }
 
-/// Bytes that were validated as UTF-8, as a text: they aren't looked at again.
+/// Bytes that were validated as UTF-8, as a text: they aren't checked again.
 #[tactic(auto, using(crate::proofs::Utf8Tests::text_tests))]
 pub(crate) fn text_in(bytes: &[u8]) -> &str
     requires { is_utf8 bytes.now ≡ true }

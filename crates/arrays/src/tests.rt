@@ -1,5 +1,5 @@
-//! What no stream shows of columns over bytes that were written by hand; their cells and their faults are in `tests/*.txt`
-//! at the repository's root.
+//! Columns over bytes that were written by hand, which no stream has; the cells and faults of those in streams are in
+//! `tests/*.txt` at the repository's root.
 
 ghost use Rattle.std.specs.Prelude.{◌≤◌, All, IfOk};
 ghost use Rattle.values.specs.Rose.{node, none};
@@ -63,7 +63,7 @@ fn list_of(alloc: Global, layout: Layout) -> Result<Column, Fail>
     Ok(Column::check(body, root)?)
 }
 
-/// Three slots of so many bytes each, whose validity buffer has so many bytes.
+/// Three slots of `width` bytes each, with a validity buffer of this many bytes.
 fn three_fixed(alloc: Global, width: u32, bits: usize) -> Result<Column, Fail>
     requires { bits ≤ 4 }
 {

@@ -1,7 +1,7 @@
 //! Validates cells by ranges of slots: 25 NotUtf8, 26 DictionaryIndex and 27 DecimalRange.
 //!
-//! The faults of slots, and of all slots that they reach, are looked for array by array. No time is spent on arrays
-//! that can't be at fault, however many slots are claimed for them.
+//! The faults of slots, and of all slots that they reach, are looked for array by array. Arrays that can't have faults
+//! are skipped, however many slots their header claims.
 
 ghost use Rattle.std.specs.Prelude.{◌≡◌, ◌+◌, ◌-◌, ◌<◌, ◌≤◌, None, length, get_or};
 ghost use Rattle.bitmaps.specs.Bits.{HasBits};

@@ -28,7 +28,7 @@ use array_layout::{Array, ArrayData, DictionaryValues, buffer, offset};
 use values::limits::MAX_CELL_WEIGHT;
 use values::{Layout, OffsetWidth};
 
-/// One more than the limit of a cell's weight. Weights above the limit are counted as this.
+/// One more than the limit of a cell's weight. Weights above the limit are represented by this.
 const TOO_HEAVY: u64 = MAX_CELL_WEIGHT + 1;
 
 #[tactic(auto, unfolding(crate::specs::Weights::capped))]

@@ -1,4 +1,4 @@
--- Bits of bytes that are cut from two bytes each, and of bytes that are made one from another.
+-- Bits of bytes that are cut from two bytes each, and of bytes that are computed from others.
 use Rattle.std.proofs.Common.{
   ◌≡◌,
   ℕ,
@@ -94,7 +94,7 @@ joined-high r low high j inside within past small =
     bit_at_or (low / 2 ^ r) (high * 2 ^ k % 2 ^ 8) j ∙ ap (λ n. max n (nth_bit (high * 2 ^ k % 2 ^ 8) j)) none
     ∙ omega arith ∙ here
 
--- Bits that are read from another place.
+-- Bits that are read from another offset.
 
 -- bit k of the bytes from `from` on, in a byte that is cut from two
 cut-bit : (bytes : List ℕ) (from k lane : ℕ) → ((i : ℕ) → Fits w8 (slice_index bytes i))
@@ -131,7 +131,7 @@ cut-bits n bytes lanes from fits long each = record {
   each = λ k below. cut-bit bytes from k (slice_index lanes (k / 8)) fits (each (k / 8) (omega (arith, long, below)));
 }
 
--- where the place is the first of a byte
+-- where the offset is the first of a byte
 whole-bit : (bytes : List ℕ) (from k lane : ℕ) → from % 8 ≡ 0 → lane ≡ slice_index bytes (from / 8 + k / 8)
     → (nth_bit lane (k % 8) == 1) ≡ bit_at bytes (from + k)
 whole-bit bytes from k lane first is =
@@ -173,7 +173,7 @@ cut-block bytes low high lanes block from fits lows highs long each is =
     ∙ ap (λ n. joined_byte (from % 8) n (slice_index high i)) (lows i here)
     ∙ ap (joined_byte (from % 8) (slice_index bytes (from / 8 + i))) (highs i here))
 
--- Bytes that are made bit by bit from others.
+-- Bytes that are computed bit by bit from others.
 
 min-and : (a b : ℕ) → a < 2 → b < 2 → (min a b == 1) ≡ (a == 1 && b == 1)
 min-and zero zero h i = refl

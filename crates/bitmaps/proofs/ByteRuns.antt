@@ -1,4 +1,4 @@
--- Bits of whole bytes that stand one after another.
+-- Bits of consecutive whole bytes.
 use Rattle.std.proofs.Common.{◌≡◌, ℕ, zero, suc, ◌+◌, ◌*◌, ◌/◌, ◌%◌, ◌^◌, ◌<◌, ◌≤◌, ◌==◌, List, [], ◌∷◌, ◌++◌, length, take, drop, refl, ap, sym, ◌∙◌, arith, Fits, w8, inl, inr, ◌-◌, subst}
 use Rattle.std.specs.Prelude.{Bool, true, slice_index}
 use Rattle.std.proofs.lemmas.Bool.{agree_below_at, cases_lt}
@@ -95,7 +95,7 @@ whole-packed xs n all fits =
     sym (packed-whole xs fits) ∙ ap (λ k. packed (length xs) (bits_at xs 0 k)) (sym all)
     ∙ ap (λ k. packed k (bits_at xs 0 n)) count
 
--- Bytes that are added to bits that fill theirs.
+-- Bytes that are added to bits that end with a whole byte.
 
 pub bytes-full : (xs : List ℕ) (n : ℕ) → IsPacked xs n → n % 8 ≡ 0 → n ≡ 8 * length xs
 bytes-full xs n packed whole =

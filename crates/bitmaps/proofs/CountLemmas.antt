@@ -1,4 +1,4 @@
--- Ones of many bytes, as those of the one number that they make.
+-- Ones of many bytes, as those of the one number that they form.
 use Rattle.std.proofs.Common.{◌≡◌, ℕ, suc, ◌+◌, ◌*◌, ◌-◌, ◌/◌, ◌%◌, ◌^◌, ◌<◌, ◌≤◌, List, [], ◌∷◌, ◌++◌, length, refl, ap, sym, ◌∙◌, arith}
 use Rattle.std.specs.Prelude.{Bool, slice_index}
 use Rattle.std.specs.Int.Count.{ones as count_ones}

@@ -1,4 +1,4 @@
--- The first bits of a byte that are alike.
+-- The first bits of a byte that are equal.
 use Rattle.std.proofs.Common.{◌≡◌, ℕ, zero, suc, ◌+◌, ◌-◌, ◌/◌, ◌%◌, ◌^◌, ◌<◌, ◌≤◌, ◌==◌, List, [], ◌∷◌, refl, ap, sym, ◌∙◌, arith, inl, inr, w8, get_or}
 use Rattle.std.specs.Prelude.{Bool, true, false, slice_index}
 use Rattle.std.specs.Int.{bit_at as nth_bit, trailing_ones, trailing_zeros}

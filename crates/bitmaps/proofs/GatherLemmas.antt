@@ -58,7 +58,7 @@ none-begun bs made is = record {
   same = is ∙ sym (ap (λ cs. take (length cs) bs) is);
 }
 
--- Bits that are added behind others.
+-- Bits that are added after others.
 
 pub bytes-added : (bs before made new : List Bool) (bytes : List ℕ) (i n : ℕ) → made ≡ before ++ take i bs
     → AreBits n bytes (λ k. get_or bs (i + k) false) → i + n ≤ length bs

@@ -1,4 +1,4 @@
--- One more bit of what is made of bitmaps.
+-- One more bit of what is computed from bitmaps.
 use Rattle.std.proofs.Common.{
   ◌≡◌,
   ℕ,

@@ -1,4 +1,4 @@
--- Runs of bits that are made of runs of other bits.
+-- Runs of bits that are computed from runs of other bits.
 use Rattle.std.proofs.Common.{
   ◌≡◌,
   ℕ,
@@ -69,7 +69,7 @@ get_or-selected (m ∷ ms) (x ∷ xs) (y ∷ ys) zero h e f = refl
 get_or-selected (m ∷ ms) (x ∷ xs) (y ∷ ys) (suc i) h e f =
     get_or-selected ms xs ys i (omega (arith, h)) (omega (arith, e)) (omega (arith, f))
 
--- what is made of two runs
+-- what is computed from two runs
 
 pub pair-run : (f : Bool → Bool → Bool) (n : ℕ) (read a b : List ℕ) (xs ys : List Bool) (i : ℕ)
     → AreBits n a (λ k. get_or xs (i + k) false) → AreBits n b (λ k. get_or ys (i + k) false)

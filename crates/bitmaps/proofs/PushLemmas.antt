@@ -60,7 +60,7 @@ byte-append (a ∷ bs) true = let rest = byte-append bs true in let twice = pow-
     omega (arith, rest, twice)
 byte-append (a ∷ bs) false = let rest = byte-append bs false in omega (arith, rest)
 
--- The last byte has room.
+-- The last byte has unused bits.
 
 shifted : (b : Bool) (r : ℕ) → r < 8 → bool_byte b * 2 ^ r % 256 ≡ bit b * 2 ^ r
 shifted true r h = let small : 2 ^ r < 2 ^ 8 = pow-lt h in omega (arith, small)
@@ -114,7 +114,7 @@ last-there bytes n e h =
     let all = counts bytes n in
     omega (arith, len, all, h)
 
--- so many bytes, where the last has room
+-- n bytes, where the last has unused bits
 packed-short : (bytes : List ℕ) (n : ℕ) → IsPacked bytes n → 0 < n % 8
     → bytes ≡ packed (suc (n / 8)) (bits_at bytes 0 n)
 unfolding bytes_of

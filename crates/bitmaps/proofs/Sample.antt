@@ -1,4 +1,4 @@
--- Some bits, and what is made of them, computed by the definitions.
+-- Some bits, and what is computed from them by the definitions.
 use Rattle.std.proofs.Common.{◌≡◌, [], ◌∷◌, true, false, refl}
 use Rattle.bitmaps.specs.Bits.{bits_at, ones}
 use Rattle.bitmaps.specs.Packed.{bytes_of}

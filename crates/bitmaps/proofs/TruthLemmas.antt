@@ -38,7 +38,7 @@ pub kept-as : (ts : List Truth) (ys us : List Bool) → AreBitsOf ts ys us → A
 kept-as ts ys us are =
     let P : List Truth → Type 0 = λ rs. AreBitsOf rs ys us in subst P (sym (seen-as ts ys us are)) are
 
--- the bitmaps that are made of what is known and what isn't
+-- the bitmaps of what is known and what isn't
 
 certain-yes : (known unknown : List Bool) → length known ≡ length unknown
     → pairwise (λ x y. x && y) known (map not unknown) ≡ map is_true (truths_by known unknown)

@@ -1,4 +1,4 @@
--- The bits of a bitmap (Arrow Columnar Format, "Validity bitmaps"), and what is made of lists of them.
+-- The bits of a bitmap (Arrow Columnar Format, "Validity bitmaps"), and operations on lists of them.
 use Rattle.std.specs.Prelude.{
   ℕ,
   zero,
@@ -37,7 +37,7 @@ unfoldable pub ones : List Bool → ℕ
 ones [] = 0
 ones (b ∷ bs) = (if b then 1 else 0) + ones bs
 
--- f of each bit of the first list and the bit of the second at its place; the lists are of one length
+-- f of each bit of the first list and the bit of the second at its index; the lists are of one length
 unfoldable pub pairwise : (Bool → Bool → Bool) → List Bool → List Bool → List Bool
 pairwise f [] ys = []
 pairwise f (x ∷ xs) [] = []

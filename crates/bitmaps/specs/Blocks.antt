@@ -11,7 +11,7 @@ pub record AreBits (n : ℕ) (bytes : List ℕ) (f : ℕ → Bool) : Type 0 wher
 unfoldable pub joined_byte : ℕ → ℕ → ℕ → ℕ
 joined_byte r low high = bit_or (low / 2 ^ r) (high * 2 ^ (8 - r) % 2 ^ 8)
 
--- the first bits of a list
+-- a prefix of a list
 pub record IsBegun (made bs : List Bool) : Type 0 where
   pub short : length made ≤ length bs
   pub same : made ≡ take (length made) bs

@@ -1,4 +1,4 @@
--- The bytes of a bitmap that is made: eight bits a byte, unused bits zero.
+-- The bytes of a bitmap: eight bits to a byte, unused bits zero.
 use Rattle.std.specs.Prelude.{◌≡◌, ℕ, zero, suc, ◌+◌, ◌*◌, ◌/◌, Bool, if◌then◌else◌, List, [], ◌∷◌, length, take, drop}
 use Rattle.bitmaps.specs.Bits.{bits_at}
 

@@ -33,13 +33,13 @@ either None (Some true) = Some true
 either None (Some false) = None
 either None None = None
 
--- f of each truth of the first list and the one of the second at its place
+-- f of each truth of the first list and the one of the second at its index
 unfoldable pub paired : (Truth → Truth → Truth) → List Truth → List Truth → List Truth
 paired f [] ys = []
 paired f (x ∷ xs) [] = []
 paired f (x ∷ xs) (y ∷ ys) = f x y ∷ paired f xs ys
 
--- unknown where its bit is 1, else what the other bit says
+-- unknown where its bit is 1, else as the other bit
 abbrev pub truth_by : Bool → Bool → Truth
 truth_by t u = if u then None else Some t
 

@@ -55,7 +55,7 @@ impl Bitmap {
         }
     }
 
-    /// A bitmap without bits, with room for `bits` of them.
+    /// A bitmap without bits, with capacity for `bits` of them.
     pub fn with_capacity(alloc: Global, bits: usize) -> Result<Bitmap, AllocError>
         ensures { IfOk result (λ b. b ≡ []) }
     {
@@ -70,7 +70,8 @@ impl Bitmap {
         self.len
     }
 
-    /// Adds the bits of whole bytes at the end, where the bits before them fill theirs. A refusal changes nothing.
+    /// Adds the bits of whole bytes at the end, where the bits before them end with a whole byte. A refusal changes
+    /// nothing.
     pub fn push_bytes(&mut self, bytes: &[u8]) -> Result<(), AllocError>
         requires whole { length self.old % 8 ≡ 0 }
         requires small { length self.old + 8 * length bytes.now < 2 ^ 64 }

@@ -23,7 +23,7 @@ use crate::lanes::{count_lanes, load, load_byte};
 use std::marker::Model;
 use std::simd::prelude::*;
 
-/// A run of bits in some bytes. It may begin at any bit and end at any bit.
+/// Consecutive bits in some bytes. They may begin at any bit and end at any bit.
 ///
 /// Contracts see it as the list of its bits.
 #[derive(Debug, Drop)]
@@ -68,7 +68,7 @@ pub(crate) fn pick(mask: bool, yes: bool, no: bool) -> bool
     if mask { yes } else { no }
 }
 
-/// How many of the first bits of a byte are as the given one.
+/// How many of the first bits of a byte are equal to the given one.
 #[inline(always)]
 #[tactic(auto, using(crate::proofs::FirstBits::first_bits))]
 fn count_first(byte: u8, bit: bool) -> usize
@@ -180,7 +180,7 @@ impl<'a> Bits<'a> {
         load(self.bytes, self.offset + i)
     }
 
-    /// The end of a run of bits that are all as bit `from` is, which begins there: eight at a time where they are.
+    /// The end of the run of bits equal to bit `from` that begins there: eight at a time where they are.
     pub fn run_end(&self, from: usize) -> usize
         requires { from < length self.now }
         ensures past { from < result }
@@ -200,7 +200,8 @@ impl<'a> Bits<'a> {
         end
     }
 
-    /// How many bits from bit `i` on are as the given one, of the next eight; or of one, where fewer than eight are left.
+    /// How many bits from bit `i` on are equal to the given one, of the next eight; or of one, where fewer than eight
+    /// remain.
     #[inline(always)]
     fn count_alike(&self, i: usize, bit: bool) -> usize
         requires { i < length self.now }

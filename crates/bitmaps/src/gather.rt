@@ -1,4 +1,4 @@
-//! Bitmaps that are made of bits that can be read 256 at a time.
+//! Bitmaps that are built from bits that can be read 256 at a time.
 
 ghost use Rattle.std.specs.Prelude.{◌≡◌, ◌+◌, ◌%◌, ◌<◌, ◌≤◌, [], ◌∷◌, Bool, List, false, get_or, length, IfOk, OnOk};
 ghost use Rattle.bitmaps.specs.Blocks.{AreBits, IsBegun};
@@ -59,7 +59,7 @@ fn push_whole_bytes<S: Source>(made: &mut Bitmap, source: &S) -> Result<(), Allo
     Ok(())
 }
 
-/// Adds the bits that are left, one at a time.
+/// Adds the remaining bits, one at a time.
 fn push_bits<S: Source>(made: &mut Bitmap, source: &S) -> Result<(), AllocError>
     requires { IsBegun made.old (S.bits source.now) }
     ensures { OnOk result (made.new ≡ S.bits source.now) }

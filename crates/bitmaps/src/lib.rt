@@ -1,8 +1,8 @@
-//! Bitmaps: truth values as bits, eight a byte, the least significant bit first (Arrow Columnar Format,
-//! "Validity bitmaps").
+//! Bitmaps: truth values as bits, eight to a byte, the least significant bit first (Arrow Columnar Format, "Validity
+//! bitmaps").
 //!
-//! [`Bits`] reads them where they lie, from any bit on; [`Bitmap`] holds some of its own. Contracts see
-//! either as the list of its truth values.
+//! [`Bits`] reads them where they lie, from any bit on; a [`Bitmap`] owns its bits. Contracts see either as the list of
+//! its truth values.
 #![tactic(auto)]
 
 mod bitmap;

@@ -166,7 +166,7 @@ fn all_are_plain(alloc: Global, offset: usize, len: usize) -> Result<bool, Alloc
     Ok(ands & ors & nots & selects & (first.count_ones() == plain::count_ones(&first)))
 }
 
-/// Runs of each length up to 200 at each place of a word.
+/// Runs of each length up to 200 at each offset in a word.
 #[test]
 fn kernels(rt: HostRuntime) -> Result<(), Fail> {
     let alloc = rt.alloc();
@@ -204,7 +204,7 @@ fn are(truths: &Truths, wanted: &[Option<bool>]) -> bool {
     true
 }
 
-/// Nine truths: unknown where `certain` has no 1, else what `known` says.
+/// Nine truths: unknown where `certain` has no 1, else as in `known`.
 #[tactic(auto, using(crate::proofs::Runs::runs, crate::proofs::TruthLemmas::truth_laws))]
 fn nine(alloc: Global, known: &[u8; 2], certain: &[u8; 2]) -> Result<Truths, AllocError>
     ensures { IfOk result (λ ts. length ts ≡ 9) }

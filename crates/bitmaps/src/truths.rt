@@ -38,7 +38,7 @@ impl Model for Truths {
 
 #[tactic(auto, using(crate::proofs::TruthLemmas::truth_laws))]
 impl Truths {
-    /// What `known` says of each, but unknown where that bitmap has a 1. The two are of one length.
+    /// The truths in `known`, but unknown where the other bitmap has a 1. The two are of one length.
     pub fn new(alloc: Global, known: &Bits<'_>, unknown: Bitmap) -> Result<Truths, AllocError>
         requires { length known.now ≡ length unknown }
         ensures { IfOk result (λ ts. ts ≡ truths_by known.now unknown) }

@@ -17,7 +17,7 @@ use Rattle.body_writer.proofs.Held.{HeldEach, kids-held}
 use Rattle.body_writer.proofs.WeightLemmas.{weights_each, weights-split}
 use Rattle.body_writer.proofs.GrowthLemmas.{ranges_from-append}
 
--- the children from number j on are still to be written, and with them the body will be the whole
+-- the children from number j on are still to be written, and then the body is the whole
 pub record Ahead (l : Layout) (j : ℕ) (ts : Roses Layout) (cs : List Datum) (now : Body) (ns : List FieldNode)
     (ss : List BufferRange) (bs : List ℕ) : Type 0 where
   pub layouts : AreLayouts ts

@@ -56,7 +56,7 @@ mapped-valid : {X : Type 0} (f : X → Datum) (m : Reading X) → IsValid (mappe
 mapped-valid f (Ok x) h = tt
 mapped-valid f (Err fs) h = absurd h
 
--- what is read of a slot that isn't null is no null
+-- what is read from a slot that isn't null isn't null
 value-set : (l : Layout) (body : List ℕ) (p : ArrayData) (item : ℕ → Reading Datum) (others : ℕ
     → Reading (List Datum)) (k : ℕ)
     → IsValid (value_by l body p item others k) → is_valid (cell_in (value_by l body p item others k)) ≡ true

@@ -11,7 +11,7 @@ use Rattle.body_writer.specs.RowRanges.{cells_in}
 use Rattle.body_writer.specs.Heavy.{AreLightUpTo, IsRowBound, layouts_in}
 use Rattle.body_writer.proofs.WeighedRows.{cell_there, light_left, split_at, weight_left}
 
--- Rows by bounds on the cells of their columns: what the sum of the bounds so far and the columns that are left weigh.
+-- Rows by bounds on the cells of their columns: what the sum of the bounds so far and the remaining columns weigh.
 pub record Covers (sum : ℕ) (rest columns : List CheckedColumn) : Type 0 where
   pub cells : (k : ℕ) → All (λ (c : CheckedColumn). k < length c.cells) columns → light_left rest k
       → light_left columns k

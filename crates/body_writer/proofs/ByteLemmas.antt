@@ -184,7 +184,7 @@ length-range xs a b h k =
     let left = length-drop a xs in
     omega (arith, cut, left, h, k)
 
--- Where offsets are fit: those of texts and bytes for their values, those of lists for the items.
+-- Where offsets are valid: those of texts and bytes for their values, those of lists for the items.
 
 list-fit : (body : List ℕ) (p : ArrayData) (kids : Roses ArrayData) (o : OffsetWidth) → p.layout ≡ Listed o
     → IsSound body (node p kids) → 0 < p.len
@@ -200,7 +200,7 @@ pub list-fit-of :
 list-fit-of body offs p kids o e l sound some =
     subst (λ ys. AreFit o ys p.len (first_len kids)) (sym e) (list-fit body p kids o l sound some)
 
--- room for the offsets of a slot, which rise
+-- the bytes that the offsets of a slot need, which rise
 pub record StandsAt (o : OffsetWidth) (offs : List ℕ) (k : ℕ) : Type 0 where
   pub room : offset_bytes o * (k + 2) ≤ length offs
   pub rising : offset_at o offs k ≤ offset_at o offs (k + 1)

@@ -1,4 +1,4 @@
--- What cells give, one after the other, is found where it stands.
+-- What cells give, one after the other, is found at its index.
 use Rattle.std.proofs.Common.{
   ◌≡◌,
   ℕ,
@@ -75,7 +75,7 @@ lengths-at f [] i h = absurd (omega (arith, h))
 lengths-at f (c ∷ cs) zero h = refl
 lengths-at f (c ∷ cs) (suc i) h = lengths-at f cs i (omega (arith, h))
 
--- piece i, and what comes after it
+-- item i, and what comes after it
 pub segment-at :
     {A : Type 0} (f : Datum → List A) (cs : List Datum) (i : ℕ) → i < length cs
     → (rest : List A) × (drop (start i (lengths f cs)) (flat_map f cs) ≡ f (get_or cs i null) ++ rest)
@@ -89,7 +89,7 @@ segment-at f (c ∷ cs) (suc i) h =
           ∙ ap (drop (start i (lengths f cs))) (drop_at (f c) (flat_map f cs) (length (f c)) refl) ∙ others.1,
     )
 
--- pieces of one width
+-- items of one width
 
 abbrev pub HaveWidth : {A : Type 0} → (Datum → List A) → ℕ → List Datum → Type 0
 HaveWidth f w cs = (i : ℕ) → i < length cs → length (f (get_or cs i null)) ≡ w
@@ -119,7 +119,7 @@ length-even f w cs even =
     sym (total-lengths f cs) ∙ sym (start-all (lengths f cs)) ∙ ap (λ n. start n (lengths f cs)) same
     ∙ start-even f w cs (length cs) (omega arith) even
 
--- n readings in a row
+-- n consecutive readings
 
 run-inside : {X : Type 0} (all : List X) (from : ℕ) (x : X) (rest : List X) → drop from all ≡ x ∷ rest
     → from < length all

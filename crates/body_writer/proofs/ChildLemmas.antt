@@ -147,7 +147,7 @@ list-gives b p ts e o k l n is some there good =
       valid = λ j h. subst IsValid (first-child b ts e (from + j) is some) (here.valid j h);
     }
 
--- Slots whose items lie between places that rise: the items of a run lie between the first place and the last.
+-- Slots whose items lie between offsets that rise: the items of a run lie between the first offset and the last.
 pub items-run :
     (read item : ℕ → Reading Datum) (at : ℕ → ℕ) (i n : ℕ) → ((k : ℕ) → i ≤ k → k < i + n
     → GivesItems item (read k) (at k) (at (k + 1) - at k))
@@ -435,7 +435,7 @@ pub null-items :
 null-items b p kids at end up is alike = sym (ap (flat_map items_in) (null-run b p kids at end up is alike)
     ∙ items-null (end - at))
 
--- run after run, one thing a cell
+-- run after run, one thing for each cell
 pub map-run-step :
     {A : Type 0} (f : Datum → A) (read : ℕ → Reading Datum) (at end to : ℕ) (made next chunk total : List A)
     → at ≤ end → end ≤ to

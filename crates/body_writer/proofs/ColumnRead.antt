@@ -1,4 +1,4 @@
--- Whatever stands around its nodes and buffers, a column's cells are read back, and no fault stands in it.
+-- Whatever comes before and after its nodes and buffers, a column's cells are read back, without a fault.
 use Rattle.std.proofs.Common.{
   ◌≡◌,
   ℕ,
@@ -138,7 +138,7 @@ mutual
       let others = nodes_below-count l (suc j) ts cs in
       omega (arith, here, others, length-append (nodes t (child_cells l j cs)) (nodes_below l (suc j) ts cs))
 
--- some of the nodes and buffers that stand
+-- some of the nodes and buffers there
 
 pub HoldBuffers-front : (body : List ℕ) (ranges : List BufferRange) (b : ℕ) (xs ys : List (List ℕ))
     → HoldBuffers body ranges b (xs ++ ys) → HoldBuffers body ranges b xs
@@ -238,7 +238,7 @@ kids-slots body all ranges n b (Listed o) (more t ts) cs is r =
 kids-slots body all ranges n b (Listed o) none cs is r = absurd is
 kids-slots body all ranges n b l ts cs is r = tt
 
--- what the children are read as
+-- the values as which the children are read
 
 row-read :
     (body : List ℕ) (all : List FieldNode) (ranges : List BufferRange) (n b j : ℕ) (ts : Roses Layout) (cs : List Datum)
@@ -276,7 +276,7 @@ kids-read body all ranges n b Struct ts cs is held r =
     (struct-at ts (get_or cs i null) es c (held i null h))
 kids-read body all ranges n b l ts cs is held r = tt
 
--- the layouts of what was placed
+-- the layouts of the arrays that were found
 
 mutual
   layout-placed : (all : List FieldNode) (ranges : List BufferRange) (n b : ℕ) (t : Rose Layout)

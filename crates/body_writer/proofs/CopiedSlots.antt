@@ -1,4 +1,4 @@
--- Slots that are copied as they lie, run by run: what of them is as it is to be, and what is not looked at yet.
+-- Slots that are copied as they lie, run by run: which of them are as they are to be, and which weren't checked yet.
 use Rattle.std.proofs.Common.{
   ◌≡◌,
   ℕ,
@@ -24,7 +24,7 @@ use Rattle.std.proofs.lemmas.List.{drop-drop, drop-take, drop_at, length-replica
 use Rattle.std.proofs.Math.Nat.{mul-add}
 use Rattle.std.proofs.Math.Seq.{take-append-add}
 
--- the first bytes of a slice, and those behind them
+-- the first bytes of a slice, and those after them
 
 take-slice : (xs : List ℕ) (a e t : ℕ) → a ≤ e → e ≤ t → take (e - a) (slice_range xs a t) ≡ slice_range xs a e
 take-slice xs a e t h k = take-take (e - a) (t - a) (drop a xs) (omega (arith, h, k))
@@ -36,7 +36,7 @@ drop-slice xs a e t h k =
     ap (λ n. drop (e - a) (take n (drop a xs))) long ∙ drop-take (e - a) (t - e) (drop a xs)
     ∙ ap (λ ys. take (t - e) ys) (drop-drop (e - a) a xs) ∙ ap (λ n. take (t - e) (drop n xs)) there
 
--- the bytes up to a place, and the next ones
+-- the bytes up to an index, and the next ones
 take-on : (out : List ℕ) (place n : ℕ) → place ≤ length out → take (place + n) out ≡ take place out ++ take n (drop place out)
 take-on out place n within =
     let size : length (take place out) ≡ place = let all = length-take place out in omega (arith, all, within) in
@@ -44,7 +44,7 @@ take-on out place n within =
     ∙ ap (λ k. take (k + n) (take place out ++ drop place out)) (sym size)
     ∙ take-append-add (take place out) (drop place out) n
 
--- All bytes of `out` from a place on are those of `xs` from `a` up to `t`, as they were copied.
+-- All bytes of `out` from an index on are those of `xs` from `a` up to `t`, as they were copied.
 pub record IsCopied (xs out : List ℕ) (place a t : ℕ) : Type 0 where
   pub within : place ≤ length out
   pub rest : drop place out ≡ slice_range xs a t
@@ -67,7 +67,7 @@ copied-next xs out place a e t n h k l is c = record {
       ∙ drop-slice xs a e t h k;
 }
 
--- what is kept of them
+-- what stays of them
 pub copied-kept :
     (xs out : List ℕ) (place a e t n : ℕ) → a ≤ e → e ≤ t → n ≡ e - a → IsCopied xs out place a t
     → take (place + n) out ≡ take place out ++ slice_range xs a e
@@ -76,7 +76,7 @@ copied-kept xs out place a e t n h k is c =
     ∙ ap (λ m. take place out ++ take m (slice_range xs a t)) is
     ∙ ap (λ v. take place out ++ v) (take-slice xs a e t h k)
 
--- bytes in whose place zeros were put
+-- bytes that were overwritten with zeros
 pub record IsCleared (out new : List ℕ) (place n : ℕ) : Type 0 where
   pub within : place + n ≤ length out
   pub bytes : new ≡ take place out ++ (replicate n 0 ++ drop (place + n) out)
@@ -115,7 +115,7 @@ cleared-next xs out new place a e t n h k l is copied c =
       rest = cleared-rest out new place n c ∙ next.rest;
     }
 
--- Where nothing is left to look at, all is kept.
+-- Where nothing remains to be checked, all stays.
 pub copied-end : (xs out : List ℕ) (place a t : ℕ) → t ≤ a → t ≤ length xs → IsCopied xs out place a t → take place out ≡ out
 copied-end xs out place a t h l c =
     let size = copied-size xs out place a t l c in take_all place out (omega (arith, size, h))

@@ -1,4 +1,4 @@
--- Slots that stand for values of a dictionary.
+-- Slots that are indices into a dictionary.
 use Rattle.std.proofs.Common.{
   ◌≡◌,
   ℕ,
@@ -75,7 +75,7 @@ found-value : (r : Option (Bor Datum)) (m : Reading Datum) → must fault.Dictio
 found-value None m e h = absurd (subst IsValid (sym e) h)
 found-value (Some b) m e h = ap cell_in e
 
--- a valid index has no sign, so it is the number without one
+-- a valid index isn't negative, so it is the number without its sign
 
 as-pos : (w x : ℕ) → x < 2 ^ (8 * w) → (n : ℕ) → twos_complement w x ≡ pos n → x ≡ n
 as-pos w x small n e = elim (cases_lt x (2 ^ (8 * w - 1))) [
@@ -212,4 +212,4 @@ pub encoded-over :
 encoded-over read i to made total h is =
     sym (append-nil made) ∙ ap (λ xs. made ++ xs) (sym (slots-none read i to h)) ∙ is
 
--- piece after piece
+-- segment after segment

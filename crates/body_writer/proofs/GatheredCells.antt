@@ -1,4 +1,4 @@
--- Cells of arrays without a dictionary, by slots and by places.
+-- Cells of arrays without a dictionary, by slots and by locations.
 use Rattle.std.proofs.Common.{
   ◌≡◌,
   ℕ,
@@ -248,7 +248,7 @@ bytes-left k xs small n = subst (λ x. x < 256) (sym (get_or-drop k xs n 0)) (sm
 pub bytes-between : (xs : List ℕ) (from to : ℕ) → AreBytes xs → AreBytes (slice_range xs from to)
 bytes-between xs from to small = bytes-taken (to - from) (drop from xs) (bytes-left from xs small)
 
--- place after place
+-- location after location
 
 pub fits-at : (l : Layout) (xs : List (Option PlainArray)) (ps : List RowLocation) (i : ℕ) (p : RowLocation)
     → All (Fits l xs) ps → i < length ps → p ≡ get_or ps i p → Fits l xs p
@@ -282,7 +282,7 @@ pub maps-end : {A : Type 0} (f : Datum → A) (xs : List (Option PlainArray)) (p
 maps-end f xs ps i made total h is =
     sym (append-nil made) ∙ ap (λ ds. made ++ map f ds) (sym (cells-end xs ps i h)) ∙ is
 
--- as many are made as places were passed
+-- as many are made as locations were passed
 pub maps-few : {A : Type 0} (f : Datum → A) (xs : List (Option PlainArray)) (ps : List RowLocation) (i : ℕ)
     (made : List A) → i < length ps → made ++ map f (located_cells xs (drop i ps)) ≡ map f (located_cells xs ps)
     → length made < length ps

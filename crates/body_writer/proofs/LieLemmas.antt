@@ -1,4 +1,4 @@
--- What is known of slots that lie as a layout wants, and of their children.
+-- What is known of slots that lie as a layout requires, and of their children.
 use Rattle.std.proofs.Common.{
   ◌≡◌,
   ℕ,

@@ -1,4 +1,4 @@
--- The columns of rows that lie each at a place of its own.
+-- The columns of rows at single locations.
 use Rattle.std.proofs.Common.{
   ◌≡◌,
   ℕ,
@@ -166,7 +166,7 @@ pub all-fit : (l : Layout) (n j : ℕ) (bs : List (Bor Batch)) (xs : List (Optio
 all-fit l n j bs xs ps plain few h all =
     All-weaker (IsLocated n bs) (Fits l xs) (placed-fits l n j bs xs plain few h) ps all
 
--- a place as a range of one row
+-- a location as a range of one row
 
 pub one-row : (n : ℕ) (bs : List (Bor Batch)) (p : RowLocation) (batch : Bor Batch) (r : RowRange) → IsLocated n bs p
     → slice_get bs p.batch ≡ Some batch → r.batch.now ≡ batch.now → r.from ≡ p.row → r.to ≡ p.row + 1

@@ -83,7 +83,7 @@ pub zeros-more : (n : ℕ) (rest : List ℕ) → replicate n 0 ++ (0 ∷ rest) �
 zeros-more n rest =
     sym (append_assoc (replicate n 0) (0 ∷ []) rest) ∙ ap (λ xs. xs ++ rest) (replicate-append-replicate {A = ℕ} n 1 0)
 
--- how many cells a piece of slots has
+-- how many cells a segment of slots has
 pub range-size : (r : SlotRange) → r.to - r.from ≡ length (range_cells r)
 range-size r = sym (length-slots (cell r.parts.body.now (node r.parts.own.now (kids_of r.parts.children.now))) r.from
     (r.to - r.from))

@@ -85,7 +85,7 @@ small int.Bits16 = small-2
 small int.Bits32 = small-4
 small int.Bits64 = small-8
 
--- the number that its low bytes are
+-- the number of its low bytes
 
 unsigned-back : (w : IntWidth) (z : ℤ) → FitsIn false (width_of w) z → pos (low_bytes w128 (width_of w) z) ≡ z
 unsigned-back w (negsuc k) h = absurd (omega (arith, ints, h.0))
@@ -172,7 +172,7 @@ decimal-back p cs i z most h e fits =
     ap (twos_complement 16) (unsigned-read 16 cs i small-16 h ∙ ap (number_in 16) e)
     ∙ back-16 z (decimal-fits p z most fits)
 
--- room for each slot
+-- bytes for each slot
 
 pub room-sound : (w : ℕ) (xs : List ℕ) (n : ℕ) → length xs ≡ w * n → slots_of w xs n ≡ Ok tt
 unfolding slots_of

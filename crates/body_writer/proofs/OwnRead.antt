@@ -1,4 +1,4 @@
--- The buffers of an array of its own are read back, by layout.
+-- The own buffers of an array are read back, by layout.
 use Rattle.std.proofs.Common.{
   ◌≡◌,
   ℕ,
@@ -106,7 +106,7 @@ slot-read : (c : Datum) (v : Bool) (m : Reading Datum) → v ≡ not (is_valid c
 slot-read null v m e h = rw e refl
 slot-read c v m e h = rw e (h refl)
 
--- what a valid slot is read as, by layout
+-- the value as which a valid slot is read, by layout
 
 false-true : false ≡ true → ⊥
 false-true e = cc
@@ -185,7 +185,7 @@ run_length (Binary o) cs = length (joined cs)
 run_length (Listed o) cs = length (items cs)
 run_length l cs = 0
 
--- what the children are read as
+-- the values as which the children are read
 abbrev pub KidsRead : Layout → List Datum → (ℕ → Reading Datum) → (ℕ → Reading (List Datum)) → Type 0
 KidsRead (Listed o) cs entry row = (j : ℕ) → j < length (items cs) → entry j ≡ Ok (get_or (items cs) j null)
 KidsRead Struct cs entry row = (i : ℕ) (es : Items) → i < length cs → get_or cs i null ≡ structure es

@@ -25,7 +25,7 @@ parts-picked columns [] j k h e = refl
 parts-picked columns (row ∷ rows) j k h e =
     ap₂ (λ c cs. c ∷ cs) (picked-part columns row j k h e) (parts-picked columns rows j k h e)
 
--- column k of the rows is column j of what is picked
+-- column k of the rows is column j of the picked ones
 pub picked-column : (columns : List ℕ) (ranges : List RowRange) (j k : ℕ) → j < length columns
     → k ≡ get_or columns j 0
     → column_in k ranges ≡ map (part j) (row_cells (picked_rows columns (ranges_rows ranges)))

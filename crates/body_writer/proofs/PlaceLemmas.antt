@@ -1,4 +1,4 @@
--- Nodes and buffers stand where they are appended.
+-- Nodes and buffers are where they are appended.
 use Rattle.std.proofs.Common.{
   ◌≡◌,
   ℕ,

@@ -197,7 +197,7 @@ values-step ds i to d made next total h room there n is =
     ∙ ap (λ x. x ∷ rest) (get_or_from_slice_get ds i d d there) in
     ap (λ xs. xs ++ rest) n ∙ append_assoc made (d ∷ []) rest ∙ ap (λ xs. made ++ xs) (sym split) ∙ is
 
--- one more piece
+-- one more segment
 
 pub all-more : (P : Segment → Type 0) (ps : List Segment) (p : Segment) → All P ps → P p → All P (ps ++ p ∷ [])
 all-more P ps p all one = All-append P ps (p ∷ []) all (All-cons P p [] one (All-nil P))

@@ -149,7 +149,7 @@ body-short ls rows batch =
     batch-size-law ls (row_cells rows) batch.layouts (rows-held ls rows batch.held)
     (omega (arith, same, light, as_many)) (omega (arith, ranges, narrow))
 
--- columns from number j on are still to be written, and with them the body will be that of the batch
+-- columns from number j on are still to be written, and then the body is that of the batch
 abbrev pub Writing : ℕ → Roses Layout → List (List Datum) → Body → Roses Layout → Type 0
 Writing j ts rows now ls =
     Ahead Struct j ts (row_cells rows) now (body_nodes ls rows) (body_ranges ls rows) (body_bytes ls rows)

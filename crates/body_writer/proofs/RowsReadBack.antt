@@ -113,7 +113,7 @@ rows-back ts rows held =
     let same : j ≡ m = omega (arith, e) in
     subst P same (row-back 0 j ts rows l ∙ picked-whole ts (get_or rows j []) (held j [] l)))
 
--- the buffers of a body stand in it
+-- the buffers of a body are in it
 body-stands : (ls : Roses Layout) (rows : List (List Datum))
     → HoldBuffers (body_bytes ls rows) (body_ranges ls rows) 0 (body_buffers ls rows)
 unfolding body_bytes body_ranges

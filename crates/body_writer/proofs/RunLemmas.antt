@@ -95,7 +95,7 @@ rises-far at i (suc n) h =
 range-none : (xs : List ℕ) (a : ℕ) → [] ≡ slice_range xs a a
 range-none xs a = let e : a - a ≡ 0 = omega arith in rw e refl
 
--- a run of slots that are valid: their bytes stand one after the other
+-- a run of slots that are valid: their bytes lie one after the other
 pub flat-valid :
     (f : Datum → List ℕ) (cell : ℕ → Reading Datum) (at : ℕ → ℕ) (xs : List ℕ) (i n : ℕ)
     → ((k : ℕ) → i ≤ k → k < i + n → f (cell_in (cell k)) ≡ slice_range xs (at k) (at (k + 1))) → ((k : ℕ) → i ≤ k

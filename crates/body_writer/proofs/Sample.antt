@@ -1,4 +1,4 @@
--- The rows of the format's own examples, as the definitions answer them.
+-- The rows of the format's own examples, as the definitions give them.
 use Rattle.std.specs.Prelude.{◌≡◌, ℕ, pos, true, false, List, [], ◌∷◌, refl}
 use Rattle.values.specs.Rose.{Rose, node, none, more}
 use Rattle.values.specs.Datum.{Datum, null, truth, whole, text, list, structure, no_items, item}

@@ -1,4 +1,4 @@
--- The pieces that are left, one after the other.
+-- The remaining segments, one after the other.
 use Rattle.std.proofs.Common.{◌≡◌, ℕ, ◌+◌, ◌<◌, ◌≤◌, List, [], ◌∷◌, ◌++◌, length, get_or, drop, ap, sym, ◌∙◌, subst, arith, append_assoc, append-nil, length-append, All}
 use Rattle.std.specs.Prelude.{map}
 use Rattle.std.specs.List.{flat_map}
@@ -95,7 +95,7 @@ pub starts-over :
 starts-over o ps i end made total h is =
     ap (λ cs. made ++ offsets_from o end (map length_in cs ++ [])) (sym (segments-none ps i h)) ∙ is
 
--- one piece, and those after it
+-- one segment, and those after it
 pub all-before : (P : Segment → Type 0) (ps : List Segment) (i : ℕ) (p : Segment) → i < length ps → p ≡ get_or ps i p
     → P p → All P (drop (i + 1) ps)
     → All P (drop i ps)

@@ -50,7 +50,7 @@ not-zero n h = grind (arith, nat_tests)
 some-of : {A : Type 0} (n : ℕ) (x y : A) → 0 < n → (if n == 0 then x else y) ≡ y
 some-of n x y h = grind (arith, nat_tests)
 
--- bits, one a cell
+-- bits, one for each cell
 
 bit-back : (bs : List Bool) (i : ℕ) → i < length bs → bit_at (bytes_of bs) i ≡ get_or bs i false
 bit-back bs i h =

@@ -42,7 +42,7 @@ heavy_left cs k = HasHeavyCell (layouts_in cs) (row_at (cells_in cs) k)
 abbrev pub light_left : List CheckedColumn → ℕ → Type 0
 light_left cs k = AreLightCells (layouts_in cs) (row_at (cells_in cs) k)
 
--- What is left of a row, after cells of this sum, decides whether the whole row is heavy.
+-- What remains of a row, after cells of this sum, decides whether the whole row is heavy.
 pub record Weighs (sum : ℕ) (rest columns : List CheckedColumn) (k : ℕ) : Type 0 where
   pub cell : heavy_left rest k → IsHeavy (layouts_in columns) (row_at (cells_in columns) k)
   pub row : max_row_weight < sum + weight_left rest k → IsHeavy (layouts_in columns) (row_at (cells_in columns) k)

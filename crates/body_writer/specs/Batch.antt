@@ -1,5 +1,5 @@
--- The body of a record batch (Arrow Columnar Format, "RecordBatch message"): its columns stand as the children of a
--- struct would, whose cells are the rows.
+-- The body of a record batch (Arrow Columnar Format, "RecordBatch message"): its columns are laid out as the children
+-- of a struct whose cells are the rows.
 use Rattle.std.specs.Prelude.{ℕ, ◌+◌, ◌≤◌, All, List, [], ◌∷◌, length, map}
 use Rattle.values.specs.Limits.{max_fields, max_batch_rows, max_batch_weight}
 use Rattle.values.specs.Rose.{Roses, roses_size}
@@ -12,7 +12,7 @@ use Rattle.array_layout.specs.declared.array.BufferRange.{BufferRange}
 use Rattle.body_writer.specs.Body.{laid, ranges_from}
 use Rattle.body_writer.specs.Columns.{buffers_below, nodes_below}
 
--- the struct that a row is
+-- a row as the cell of a struct
 abbrev pub row_cell : List Datum → Datum
 row_cell row = structure (items_of row)
 

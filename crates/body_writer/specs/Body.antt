@@ -15,7 +15,7 @@ padded xs = xs ++ replicate (padding (length xs)) 0
 abbrev pub laid : List (List ℕ) → List ℕ
 laid xs = flat_map padded xs
 
--- where the buffers stand in the body, the first at `at`, and their lengths without padding
+-- where the buffers lie in the body, the first at `at`, and their lengths without padding
 abbrev pub ranges_from : ℕ → List (List ℕ) → List BufferRange
 ranges_from at [] = []
 ranges_from at (x ∷ xs) = record { from = at; len = length x } ∷ ranges_from (at + length (padded x)) xs

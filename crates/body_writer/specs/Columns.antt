@@ -39,7 +39,7 @@ validity cs = if null_count cs == 0 then [] else bytes_of (map is_valid cs)
 unfoldable pub truths : List Datum → List ℕ
 truths cs = bytes_of (map truth_in cs)
 
--- w bytes a slot
+-- w bytes for each slot
 unfoldable pub numbers : ℕ → List Datum → List ℕ
 numbers w cs = flat_map (λ c. little_bytes w (number_in w c)) cs
 
@@ -73,7 +73,7 @@ value_buffers (Binary o) cs = offsets o cs ∷ joined cs ∷ []
 value_buffers (Listed o) cs = offsets o cs ∷ []
 value_buffers Struct cs = []
 
--- the buffers that an array has of its own
+-- the buffers of an array itself, without those of its children
 abbrev pub own_buffers : Layout → List Datum → List (List ℕ)
 own_buffers l cs = validity cs ∷ value_buffers l cs
 

@@ -1,4 +1,4 @@
--- Rows that are too heavy to be taken: a cell of more than 2^20, or a row of more than 2^26.
+-- Rows that are too heavy to be accepted: with a cell of more than 2^20, or a row of more than 2^26.
 use Rattle.std.specs.Prelude.{◌≡◌, ℕ, ◌<◌, ◌≤◌, ◌⊎◌, All, List, [], ◌∷◌, length, map}
 use Rattle.values.specs.Limits.{max_cell_weight, max_row_weight}
 use Rattle.values.specs.Datum.{Datum}

@@ -1,4 +1,4 @@
--- What columns that are written are read as, how many nodes and buffers they have, and how long they are.
+-- As what written columns are read, how many nodes and buffers they have, and how long they are.
 use Rattle.std.specs.Prelude.{◌≡◌, ℕ, suc, ◌+◌, ◌*◌, ◌%◌, ◌<◌, ◌≤◌, All, Ok, List, [], ◌∷◌, ◌++◌, length, map}
 use Rattle.values.specs.Limits.{max_body_size, max_batch_weight}
 use Rattle.values.specs.Rose.{Rose, node, Roses, none, more, rose_size}
@@ -28,7 +28,7 @@ HoldBuffers body ranges b [] = Unit {0}
 HoldBuffers body ranges b (x ∷ xs) =
     LiesIn body (range_at ranges b) × (bytes_of body (range_at ranges b) ≡ x) × HoldBuffers body ranges (suc b) xs
 
--- Whatever stands around its nodes and buffers: a column's cells are read back, and no fault stands in it.
+-- Whatever comes before and after its nodes and buffers, a column's cells are read back, without a fault.
 abbrev pub ColumnLaw : Type 0
 ColumnLaw =
     (t : Rose Layout) (cs : List Datum) (body : List ℕ) (all : List FieldNode) (ranges : List BufferRange) (n b : ℕ)
@@ -43,7 +43,7 @@ PlacedLaw =
     → weights t cs < offset_bound → AreNodes all n (nodes t cs) → HoldBuffers body ranges b (buffers t cs)
     → IsPlaced body (placed all ranges n b t)
 
--- as many nodes as the tree has, as many buffers as its layouts want
+-- as many nodes as the tree has, as many buffers as its layouts require
 abbrev pub NodesLaw : Type 0
 NodesLaw = (t : Rose Layout) (cs : List Datum) → length (nodes t cs) ≡ rose_size t
 
@@ -75,7 +75,7 @@ BuffersAreHeldLaw =
     (before after : List ℕ) (sb sa : List BufferRange) (xs : List (List ℕ))
     → HoldBuffers (before ++ (laid xs ++ after)) (sb ++ (ranges_from (length before) xs ++ sa)) (length sb) xs
 
--- each buffer stands at a multiple of 8
+-- each buffer begins at a multiple of 8
 abbrev pub AlignedLaw : Type 0
 AlignedLaw = (at : ℕ) (xs : List (List ℕ)) → at % 8 ≡ 0 → All (λ (s : BufferRange). s.from % 8 ≡ 0) (ranges_from at xs)
 
@@ -85,7 +85,7 @@ SizeLaw =
     (t : Rose Layout) (cs : List Datum) → IsLayout t → All (Holds t) cs
     → 4 * length (laid (buffers t cs)) ≤ 7 * weights t cs + 64 * ranges_in t
 
--- rows of summed weight 2^27, where the 1 a row that a struct weighs is not counted
+-- rows of summed weight 2^27, where the 1 that a struct weighs is not counted for each row
 abbrev pub BatchSizeLaw : Type 0
 BatchSizeLaw =
     (ts : Roses Layout) (rows : List Datum) → AreLayouts ts → All (Holds (node Struct ts)) rows

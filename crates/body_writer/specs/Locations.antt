@@ -1,4 +1,4 @@
--- Rows that lie each at a place of its own in batches of checked columns, and the arrays in which their cells lie.
+-- Rows at single locations in batches of checked columns, and the arrays in which their cells lie.
 use Rattle.std.specs.Prelude.{◌≡◌, ℕ, ◌<◌, ◌≤◌, All, List, [], None, Ok, Option, Some, get_or, length, map, slice_get, slice_index, true}
 use denote.Ref.{Bor}
 use Rattle.values.specs.Datum.{Datum, null}
@@ -124,7 +124,7 @@ pub record HasText (l : Layout) (a : PlainArray) (i : ℕ) : Type 0 where
   pub slot : IsSlot l a i
   pub texts : IsTexts l
 
--- The slot at this place is one of such an array, if there is an array.
+-- The slot at this location is one of such an array, if there is an array.
 abbrev pub Fits : Layout → List (Option PlainArray) → RowLocation → Type 0
 Fits l xs p = (a : PlainArray) → slice_get xs p.batch ≡ Some (Some a) → IsSlot l a p.row
 
@@ -143,13 +143,13 @@ abbrev pub ArePlain : Layout → ℕ → List (Bor Batch) → List (Option Plain
 ArePlain l j bs xs = (k : ℕ) (b : Bor Batch) (c : CheckedColumn) → slice_get bs k ≡ Some b
     → slice_get b.now.columns.items j ≡ Some c → HasCellsAt l c.cells (slice_get xs k)
 
--- They are said to be plain, and have this layout, which has no children.
+-- They are plain, as it is said, and have this layout, which has no children.
 pub record IsReady (t : Rose Layout) (s : BatchArrays) : Type 0 where
   pub plain : s.is_plain ≡ true
   pub layout : s.layout ≡ layout_of t
   pub leaf : IsLeaf s.layout
 
--- They are if they are said to be plain, and there are none beside them.
+-- They are the arrays of the batches if they are said to be plain; otherwise there are none.
 pub record AreFound (bs : List (Bor Batch)) (s : BatchArrays) : Type 0 where
   pub plain : s.is_plain ≡ true → ArePlain s.layout s.column bs s.arrays.items
   pub few : length s.arrays.items ≤ length bs
@@ -167,7 +167,7 @@ abbrev pub AreRowsOf : List LocatedColumn → List (List Datum) → Type 0
 AreRowsOf cs rows = (j : ℕ) (c : LocatedColumn) → j < length cs → c ≡ get_or cs j c
     → map (part j) (row_cells rows) ≡ column_cells c
 
--- and they make a batch
+-- and they can be a batch
 pub record MakeBatch (ls : Roses Layout) (cs : List LocatedColumn) (rows : List (List Datum)) : Type 0 where
   pub cells : AreRowsOf cs rows
   pub batch : IsBatch ls rows

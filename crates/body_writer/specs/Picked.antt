@@ -1,4 +1,4 @@
--- Rows of which some columns are taken, in an order of their own, and rows with others beside them.
+-- Some columns of rows, in an order of their own, and rows with others beside them.
 use Rattle.std.specs.Prelude.{ℕ, ◌<◌, All, List, [], ◌∷◌, ◌++◌, get_or, map}
 use Rattle.values.specs.Datum.{Datum, null}
 use Rattle.body_writer.specs.RowRanges.{IsRange}

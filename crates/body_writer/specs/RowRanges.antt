@@ -18,7 +18,7 @@ batch_rows b = rows_in b.rows (cells_in b.columns.items)
 abbrev pub rows_of : List Batch → List (List Datum)
 rows_of bs = flat_map batch_rows bs
 
--- the batch has n columns, each with a cell a row
+-- the batch has n columns, each with one cell for each row
 pub record IsSized (n : ℕ) (b : Batch) : Type 0 where
   pub columns : length b.columns.items ≡ n
   pub cells : All (λ (c : CheckedColumn). length c.cells ≡ b.rows) b.columns.items

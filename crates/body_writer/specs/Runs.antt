@@ -1,4 +1,4 @@
--- Slots one after the other, by what their cells are where no fault stands, and what they hold.
+-- Slots one after the other: which cells they have where there is no fault, and what they hold.
 use Rattle.std.specs.Prelude.{◌≡◌, ◌⊎◌, ℕ, zero, suc, ◌+◌, ◌<◌, ◌≤◌, List, [], ◌∷◌, Ok, Err}
 use Rattle.std.specs.List.{flat_map}
 use Rattle.array_layout.specs.Buffers.{is_null}
@@ -43,7 +43,7 @@ slot_bytes (Decimal p) c = little_bytes 16 (number_in 16 c)
 slot_bytes (FixedSizeBinary w) c = fixed_in w c
 slot_bytes l c = []
 
--- the buffers of cells that take as many bytes each
+-- the buffers of cells that all take the same number of bytes
 abbrev pub fixed_buffers : Layout → List Datum → List (List ℕ)
 fixed_buffers l cs = validity cs ∷ flat_map (slot_bytes l) cs ∷ []
 

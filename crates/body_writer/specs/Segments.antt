@@ -59,7 +59,7 @@ IsAlike l m = m ≡ with_offsets (offset_width m) l
 abbrev pub array_of : ColumnParts → Rose ArrayData
 array_of parts = node parts.own.now (kids_of parts.children.now)
 
--- its slots stand for values of a dictionary
+-- its slots are indices into a dictionary
 abbrev pub HasDictionary : ArrayData → Type 0
 HasDictionary p = is_some p.dictionary ≡ true
 
@@ -76,7 +76,7 @@ abbrev mutual
   AllLie (more t ts) (more m models) (more a arrays) = Lies t m a × AllLie ts models arrays
   AllLie _ _ _ = ⊥
 
--- what holds of the slots of a piece, if it is of slots
+-- what holds of the slots of a segment, if it is of slots
 abbrev pub OfSlots : (SlotRange → Type 0) → Segment → Type 0
 OfSlots P (Slots r) = P r
 OfSlots P (Nulls n) = Unit {0}
@@ -94,7 +94,7 @@ abbrev pub LiesAs : Rose Layout → Rose ArrayData → Segment → Type 0
 LiesAs t m (Slots r) = RangeLies t m r
 LiesAs t m (Nulls n) = Unit {0}
 
--- what is known of slots without a look below their array
+-- what is known of slots without looking below their array
 
 pub record IsPlain (r : SlotRange) : Type 0 where
   pub checked : IsChecked r
@@ -104,7 +104,7 @@ pub record IsEncoded (r : SlotRange) : Type 0 where
   pub checked : IsChecked r
   pub encoded : HasDictionary r.parts.own.now
 
--- slots that stand for these values, by indices of this width
+-- slots that refer to these values, by indices of this width
 pub record IsIndexed (w : IntWidth) (values : List Datum) (r : SlotRange) : Type 0 where
   pub checked : IsChecked r
   pub layout : (s : Bool) × (r.parts.own.now.layout ≡ Int w s)

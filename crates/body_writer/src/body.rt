@@ -32,7 +32,7 @@ impl Body {
         }
     }
 
-    /// An empty body, with room for this number of bytes.
+    /// An empty body, with capacity for this number of bytes.
     pub fn with_capacity(alloc: Global, capacity: usize) -> Result<Self, AllocError>
         ensures nodes { IfOk result (λ body. body.nodes.items ≡ []) }
         ensures ranges { IfOk result (λ body. body.ranges.items ≡ []) }
@@ -45,7 +45,7 @@ impl Body {
         })
     }
 
-    /// Ends a buffer, whose bytes are those from byte `from` on: appends zeros up to a multiple of 8.
+    /// Ends a buffer, whose bytes are those from index `from` on: appends zeros up to a multiple of 8.
     #[tactic(auto, using(crate::proofs::GrowthLemmas::ending))]
     pub fn end_buffer(&mut self, from: usize) -> Result<(), AllocError>
         requires { from ≤ length self.old.bytes.items }

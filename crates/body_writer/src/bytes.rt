@@ -1,4 +1,4 @@
-//! Bytes that are written of values and of columns alike.
+//! Bytes that are written from values and from columns alike.
 
 ghost use Rattle.std.specs.Prelude.{◌≡◌, ◌<◌, ◌++◌, OnOk, replicate};
 ghost use Rattle.byteorder.specs.Endian.{little_bytes};

@@ -1,4 +1,4 @@
-//! Columns from references to values: an array's buffers are made cell by cell.
+//! Columns from references to values: an array's buffers are built cell by cell.
 
 pub(crate) mod batch;
 pub(crate) mod buffers;

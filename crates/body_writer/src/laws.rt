@@ -22,7 +22,7 @@ pub fn column_law()
     ensures batch { BatchLaw }
 {}
 
-/// A column has one node for each of its arrays, and as many buffers as their layouts want.
+/// A column has one node for each of its arrays, and as many buffers as their layouts require.
 #[tactic(auto, using(crate::proofs::ColumnRead::column_laws))]
 pub fn count_law()
     ensures nodes { NodesLaw }

@@ -1,12 +1,12 @@
-//! The canonical buffers of columns of any layout, and the body of a batch, written from values or straight from checked
-//! columns.
+//! The canonical buffers of columns of any layout, and the body of a batch, written from values or straight from
+//! checked columns.
 //!
 //! `specs/Columns.antt` says what the nodes and buffers of a column are, `specs/Body.antt` how buffers are laid out,
-//! `specs/Batch.antt` what the body of a batch is and which rows make one, `specs/Law.antt` that a column that is
-//! written is read back. The laws are carried by [`column_law`] and its neighbours. What is written has its source in its
-//! name: [`write_column_from_values`], [`write_body_from_columns`], [`write_body_from_picked_columns`] and
-//! [`write_body_from_locations`]. Which rows are too heavy to be written is what [`heaviest_row`] and [`weigh_row`] say
-//! (`specs/Heavy.antt`).
+//! `specs/Batch.antt` what the body of a batch is and which rows can be one, `specs/Law.antt` that a column that is
+//! written is read back. The laws are the contracts of [`column_law`] and its neighbours. Functions that write are
+//! named after their source: [`write_column_from_values`], [`write_body_from_columns`],
+//! [`write_body_from_picked_columns`] and [`write_body_from_locations`]. [`heaviest_row`] and [`weigh_row`] say which
+//! rows are too heavy to be written (`specs/Heavy.antt`).
 #![tactic(auto)]
 
 mod body;

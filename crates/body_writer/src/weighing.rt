@@ -15,7 +15,7 @@ ghost use Rattle.body_writer.specs.RowRanges.{cells_in};
 use arrays::Column;
 use values::limits::{MAX_CELL_WEIGHT, MAX_ROW_WEIGHT};
 
-/// Of rows that weigh no more than this, 1,024 are within the limit on a written batch's weight.
+/// 1,024 rows that weigh no more than this each are within the limit on a written batch's weight.
 pub const MAX_LIGHT_ROW: u64 = 1 << 17;
 
 /// The weight of row `index`, or `None` if one of its cells is above the limit of a cell, or the row is above that of a
@@ -40,8 +40,8 @@ pub fn weigh_row(columns: &[Column], index: usize) -> Option<u64>
     Some(sum)
 }
 
-/// A weight that no row is above, by bounds on the cells of each column, or `None` where it isn't that of a light row.
-/// No row is looked at by itself.
+/// An upper bound on the weights of the rows, from bounds on the cells of each column, or `None` where it isn't that of
+/// a light row. Rows aren't weighed one by one.
 #[tactic(auto, using(crate::proofs::BoundedRows::bounding))]
 fn bound_rows(columns: &[Column]) -> Option<u64>
     ensures { IfSome result (IsRowBound columns.now) }
@@ -56,8 +56,8 @@ fn bound_rows(columns: &[Column]) -> Option<u64>
     Some(sum)
 }
 
-/// A weight that none of the first `count` rows is above, or `None` if one of them is too heavy. Each is weighed by
-/// itself only where the bounds of the columns are large.
+/// An upper bound on the weights of the first `count` rows, or `None` if one of them is too heavy. Rows are weighed one
+/// by one only where the bounds of the columns are large.
 pub fn heaviest_row(columns: &[Column], count: usize) -> Option<u64>
     requires { All (λ c. length c.cells ≡ count) columns.now }
     ensures heavy { result ≡ None → HasHeavyRow (layouts_in columns.now) (cells_in columns.now) count }

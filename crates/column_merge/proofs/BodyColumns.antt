@@ -46,7 +46,7 @@ use Rattle.body_writer.specs.RowRanges.{cells_in}
 use Rattle.column_merge.specs.Merged.{IsWritten, arrays_for}
 use Rattle.column_merge.proofs.Places.{nodes_step, ranges_step}
 
--- what was placed has no dictionaries, and is of the layouts that it was placed by
+-- arrays whose buffers were found have no dictionaries, and the layouts by which they were found
 
 mutual
   pub placed-typed : (nodes : List FieldNode) (ranges : List BufferRange) (n b : ℕ) (t : Rose Layout)
@@ -69,7 +69,7 @@ mutual
   placed-layouts nodes ranges n b (more t ts) =
       rw (placed-layout nodes ranges n b t, placed-layouts nodes ranges (n + rose_size t) (b + ranges_in t) ts) refl
 
--- what was read, and what is left to read, are the whole
+-- what was read, and what remains to be read, are the whole
 pub record IsBetween
     (bytes : List ℕ) (nodes : List FieldNode) (ranges : List BufferRange) (n b : ℕ) (left : Roses Layout)
     (made : List CheckedColumn) (whole : Reading (List (List Datum)))
@@ -152,7 +152,7 @@ layouts_more ts k t d made c is below typed h =
     ∙ (λ i. h i ++ (typed ∙ is) i ∷ [])
     ∙ sym (take_more ts k d below)
 
--- Where columns are read that are as long as rows are, those that were read are.
+-- Where columns are read that are as long as there are rows, those that were read are.
 
 cells-long : (n : ℕ) (made : List CheckedColumn) → All (λ (c : List Datum). length c ≡ n) (cells_in made)
     → All (λ c. length c.cells ≡ n) made

@@ -9,12 +9,12 @@ use Rattle.array_layout.specs.Sound.{ArePlaced}
 use Rattle.schema_meta.specs.Rows.{columns_in, rows_in}
 use Rattle.body_writer.specs.Batch.{IsBatch, body_bytes, body_nodes, body_ranges}
 
--- the arrays of the columns that are written of these rows
+-- the arrays of the columns that are written for these rows
 abbrev pub arrays_for : Roses Layout → List (List Datum) → Roses ArrayData
 arrays_for ls rows = placed_all (body_nodes ls rows) (body_ranges ls rows) 0 0 ls
 
--- They have the nodes and buffers that they want, which lie in the body, and these rows are read from them, in order,
--- without a fault.
+-- They have as many nodes and buffers as they require, which lie in the body, and these rows are read from them, in
+-- order, without a fault.
 pub record IsWritten (ls : Roses Layout) (rows : List (List Datum)) : Type 0 where
   pub nodes : roses_size ls ≤ length (body_nodes ls rows)
   pub ranges : ranges_below ls ≤ length (body_ranges ls rows)

@@ -20,7 +20,7 @@ byte_layouts = more byte_layout none
 abbrev pub IsByteRow : List Datum → Type 0
 IsByteRow row = HoldsEach byte_layouts (items_of row) × (row_weight byte_layouts row ≤ 2)
 
--- so many rows of a byte
+-- n rows of a byte
 pub record AreBytes (n : ℕ) (b : Batch) : Type 0 where
   pub rows : b.rows ≡ n
   pub sized : IsSized 1 b

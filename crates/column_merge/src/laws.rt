@@ -1,8 +1,8 @@
-//! The law of what is written of rows, as the contract of a function that does nothing.
+//! The law of the written bodies of rows, as the contract of a function that does nothing.
 
 ghost use Rattle.column_merge.specs.Merged.{WrittenLaw};
 
-/// What is written of some rows lies in its body, and is read without a fault, as columns with these rows.
+/// The columns of a written body of some rows lie in it, and are read without a fault, as columns with these rows.
 pub fn written_law()
     ensures { WrittenLaw }
 {}

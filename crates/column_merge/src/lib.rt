@@ -1,9 +1,9 @@
-//! Writes rows that lie in several batches of checked columns anew, as the checked columns of one batch, so that the
-//! batches can go.
+//! Rewrites rows that lie in several batches of checked columns as the checked columns of one batch, so that the
+//! batches can be released.
 //!
-//! The rows are written as the body of a batch (`body_writer`), its arrays are placed in it (`src/place.rt`), and each
-//! is checked as a column that came in a message. That nothing else is read than what was written is the law in
-//! `specs/Merged.antt`.
+//! The rows are written as the body of a batch (`body_writer`), the buffers of its arrays are found in it
+//! (`src/place.rt`), and each array is checked as a column that came in a message. That just the written rows are read
+//! is the law in `specs/Merged.antt`.
 #![tactic(auto)]
 
 mod laws;

@@ -28,7 +28,7 @@ fn check_column(bytes: &Rc<Vec<u8>>, array: Array) -> Result<Column, AllocError>
 {
     match Column::check(bytes.clone()?, array) {
         Ok(column) => Ok(column),
-        // No fault stands in what was written of rows, so that memory was refused.
+        // What was written has no fault, so memory was refused.
         Err(_) => Err(AllocError),
     }
 }
@@ -70,8 +70,8 @@ fn read_columns(
 }
 
 /// The columns of these layouts that have these rows, in order. No column has a dictionary: where one of a batch had,
-/// each of its cells is now a value of its own, so that they can take more bytes than the batches did. The error is that
-/// memory was refused.
+/// each of its cells is now a value of its own, so that they can take more bytes than the batches did. The error is
+/// that memory was refused.
 pub fn merge_rows(
     alloc: Global,
     layouts: &[LayoutTree],
@@ -84,7 +84,7 @@ pub fn merge_rows(
     ensures long { IfOk result (λ cs. All (λ c. length c.cells ≡ length (ranges_rows ranges.now)) cs.items) }
     ensures typed { IfOk result (λ cs. map (λ c. c.layouts) cs.items ≡ layouts.now) }
 {
-    // It does nothing: the proof takes from it what is read of the body.
+    // It does nothing: the proof takes from it what is read from the body.
     written_law();
     let body = write_body_from_columns(alloc, layouts, ranges, 0)?;
     read_columns(alloc, layouts, body)

@@ -1,4 +1,4 @@
-//! Places the arrays of a body that was written: Arrow Columnar Format, "RecordBatch message".
+//! Finds the buffers of the arrays of a written body: Arrow Columnar Format, "RecordBatch message".
 
 ghost use Rattle.std.specs.Prelude.{◌≡◌, ◌+◌, ◌≤◌, IfOk, length};
 ghost use Rattle.values.specs.Rose.{kids_of, rose_size, roses_size};

@@ -65,7 +65,7 @@ mutual
 pub first_cells : TruthIsOfFirstCells
 first_cells row more f within = first-truth row more f within
 
--- All parts are within, if those are that were not looked at.
+-- All parts are within, if those are that were not checked yet.
 abbrev pub LeftWithin : ℕ → List Filter → ℕ → Type 0
 LeftWithin n fs i = AreWithin n (parts_of (drop i fs)) → AreWithin n (parts_of fs)
 

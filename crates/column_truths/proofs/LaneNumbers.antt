@@ -1,4 +1,4 @@
--- Numbers in lanes: those that stand in bytes, one after the other.
+-- Numbers in lanes: those in bytes, one after the other.
 use Rattle.std.proofs.Common.{
   ◌≡◌,
   ℕ,

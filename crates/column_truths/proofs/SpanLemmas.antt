@@ -218,7 +218,7 @@ number_far w s u small =
     let number = number_of w s u small in
     far w s (number_by s (bytes_in w) u) number.1 number.2
 
--- how a number stands to another
+-- how a number compares with another
 abbrev AreRanked : ℤ → ℤ → Type 0
 AreRanked z k = (int_cmp z k ≡ Less × (z <ℤ k)) ⊎ ((int_cmp z k ≡ Equal × (z ≡ k)) ⊎ (int_cmp z k ≡ Greater × (k <ℤ z)))
 

@@ -25,7 +25,7 @@ nulls_in ds = map (λ i. Some (is_null_datum (get_or ds i null))) (range_with_le
 unfoldable pub all_alike : Bool → ℕ → List Truth
 all_alike b n = map (λ i. Some b) (range_with_len 0 n)
 
--- the truth that an index stands for; unknown where there is none
+-- the truth of the value with this index; unknown where there is none
 abbrev pub indexed_truth : List Truth → ℤ → Truth
 indexed_truth ts (pos n) = get_or ts n None
 indexed_truth ts (negsuc n) = None

@@ -40,7 +40,7 @@ truths_of_all n columns fs = map (λ i. truth_of_all (row_at columns i) fs) (ran
 abbrev pub truths_of_any : ℕ → List CheckedColumn → Filters → List Truth
 truths_of_any n columns fs = map (λ i. truth_of_any (row_at columns i) fs) (range_with_len 0 n)
 
--- A filter that names the columns of a row alone says the same of that row with more cells after it.
+-- A filter that names the columns of a row alone has the same truth on that row with more cells after it.
 abbrev pub TruthIsOfFirstCells : Type 0
 TruthIsOfFirstCells =
     (row more : List Datum) (f : Filter) → IsWithin (length row) f → truth (row ++ more) f ≡ truth row f

@@ -1,4 +1,4 @@
--- Runs of whole numbers, and their bits.
+-- Ranges of whole numbers, and their bits.
 use Rattle.std.specs.Prelude.{
   ◌≡◌,
   ◌⊎◌,
@@ -49,7 +49,7 @@ abbrev pub passes_span : IntWidth → Span → ℕ → Bool
 passes_span w s u =
     if s.inside then in_span (8 * bytes_in w) s.low s.span u else not (in_span (8 * bytes_in w) s.low s.span u)
 
--- whether number i of those that stand in bytes lies in a span
+-- whether number i of those in these bytes lies in a span
 unfoldable pub lies_in : IntWidth → ℕ → ℕ → List ℕ → ℕ → Bool
 lies_in w low span bytes i = in_span (8 * bytes_in w) low span (unsigned_at (bytes_in w) bytes i)
 

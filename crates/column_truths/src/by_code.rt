@@ -56,7 +56,7 @@ fn indexed(truths: &Truths, index: i128) -> Option<bool>
     truths.at(index as usize)
 }
 
-/// The truth of slot `i`: that of the value that it stands for, and unknown where it is null.
+/// The truth of slot `i`: that of the value to which it refers, and unknown where it is null.
 #[tactic(auto, unfolding(crate::specs::Compared::slot_truth))]
 fn slot_truth(
     bits: &[u8],

@@ -119,7 +119,7 @@ fn push_whole_bytes(
     Ok(())
 }
 
-/// Adds which of the numbers that are left lie in a span, one at a time.
+/// Adds which of the remaining numbers lie in a span, one at a time.
 #[tactic(auto, using(crate::proofs::LaneRuns::lying))]
 fn push_bits(
     made: &mut Bitmap,

@@ -15,8 +15,8 @@ use std::alloc::{AllocError, Global};
 use values::{Kind, Layout, Value};
 use view_lang::{Comparison, Filter, Operand, Test};
 
-/// The truth of a comparison of each cell of a column with a constant: by code where the column has a dictionary, and by
-/// lanes where its cells are whole numbers.
+/// The truth of a comparison of each cell of a column with a constant: by code where the column has a dictionary, and
+/// by lanes where its cells are whole numbers.
 pub fn compare(
     alloc: Global,
     column: &Column,
@@ -101,7 +101,7 @@ fn repeated(alloc: Global, truth: bool, len: usize) -> Result<Truths, AllocError
     Ok(truths)
 }
 
-/// The truth of a filter on each of the `rows` rows of some columns, to which all columns belong that it names.
+/// The truth of a filter on each of the `rows` rows of some columns, which include all columns that it names.
 #[cycle(truths)]
 #[tactic(auto, using(crate::proofs::RowLemmas::row_laws, view_lang::proofs::Truths::part_smaller))]
 pub fn truths(

@@ -69,7 +69,7 @@ fn dictionary(alloc: Global) -> Result<Dictionary, Fail>
     Ok(dictionary.share()?)
 }
 
-/// Indices of -3, null, 3, -3 and 3, of which the last but one stands in a null slot.
+/// Indices of -3, null, 3, -3 and 3, of which the last but one is in a null slot.
 fn coded(alloc: Global) -> Result<Column, Fail> {
     let body = Rc::new(alloc, vec![in alloc; 0x17, 0, 1, 2, 0, 2]?)?;
     let dictionary = DictionaryValues {
@@ -144,7 +144,7 @@ fn coded_numbers(rt: HostRuntime) -> Result<(), Fail> {
     Ok(())
 }
 
-/// A filter is within as many columns as it names, and no fewer.
+/// A filter names none but the first columns where these include all that it names, and not otherwise.
 #[test]
 fn columns_of_filters(rt: HostRuntime) -> Result<(), Fail> {
     let alloc = rt.alloc();
@@ -167,7 +167,7 @@ fn columns_of_filters(rt: HostRuntime) -> Result<(), Fail> {
     Ok(())
 }
 
-/// Byte `place` of the least number of a width, of 1, and of the greatest, one after the other.
+/// Byte `place`, counted from 0, of the least number of a width, of 1, and of the greatest, one after the other.
 fn byte_at(width: IntWidth, signed: bool, place: usize) -> u8 {
     let is_last = place % width.bytes() == width.bytes() - 1;
     match place / width.bytes() % 3 {
@@ -233,8 +233,8 @@ fn counts_with(alloc: Global, column: &Column, constant: i128) -> Result<[usize;
     ])
 }
 
-/// Whether comparisons with the numbers just below and at the least number of a width, and at and just above the greatest,
-/// hold of as many cells as they should.
+/// Whether comparisons with the numbers just below and at the least number of a width, and at and just above the
+/// greatest, hold of as many cells as they should.
 fn holds_at_limits(
     alloc: Global,
     width: IntWidth,

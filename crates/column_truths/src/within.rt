@@ -8,8 +8,8 @@ ghost use Rattle.column_truths.specs.RowTruths.{AreWithin, IsWithin, OperandIsWi
 
 use view_lang::{Filter, Operand, Test};
 
-/// A filter that names the columns of a row alone says the same of that row with more cells after it. It does nothing:
-/// its contract is the theorem.
+/// A filter that names the columns of a row alone has the same truth on that row with more cells after it. It does
+/// nothing: its contract is the theorem.
 #[tactic(auto, using(crate::proofs::FirstCells::cell_laws))]
 pub fn first_cells_law()
     ensures { TruthIsOfFirstCells }
@@ -39,7 +39,7 @@ pub fn is_within(filter: &Filter, columns: usize) -> bool
     }
 }
 
-/// Whether all of the filters do so.
+/// Whether all of the filters name none but these.
 #[cycle(is_within)]
 #[tactic(auto, using(crate::proofs::FirstCells::within_laws, view_lang::proofs::Truths::part_smaller))]
 fn are_within(parts: &[Filter], columns: usize) -> bool

@@ -1,4 +1,4 @@
--- Values that are copied one by one, and a value that is put in its own place.
+-- Values that are copied one by one, and a value that replaces itself.
 use Rattle.std.proofs.Common.{
   ◌≡◌,
   ℕ,

@@ -44,7 +44,7 @@ joined-take-more cs k c h e = ap joined (take_more cs k c h) ∙ joined-push (ta
 pub joined-take-all : (cs : List (List Datum)) (k : ℕ) → length cs ≤ k → joined (take k cs) ≡ joined cs
 joined-take-all cs k h = ap joined (take_all k cs h)
 
--- the first k chunks, and one of all the other values and more behind them
+-- the first k chunks, and one with all the other values and more after them
 pub joined-extended : (cs : List (List Datum)) (k : ℕ) (ds : List Datum)
     → joined (take k cs ++ (joined (drop k cs) ++ ds) ∷ []) ≡ joined cs ++ ds
 joined-extended cs k ds =
@@ -65,7 +65,7 @@ joined-drop-more : (cs : List (List Datum)) (k : ℕ) (c d : List Datum) → k <
     → joined (drop k cs) ≡ c ++ joined (drop (k + 1) cs)
 joined-drop-more cs k c d h e = ap joined (drop_more cs k d h) ∙ ap (λ x. x ++ joined (drop (k + 1) cs)) (sym e)
 
--- value i of cs is value j from chunk k on: it is in chunk k, or behind it, or there is none
+-- value i of cs is value j from chunk k on: it is in chunk k, or after it, or there is none
 pub in-chunk : (cs : List (List Datum)) (i k j : ℕ) (c d : List Datum)
     → slice_get (joined cs) i ≡ slice_get (joined (drop k cs)) j → k < length cs → c ≡ get_or cs k d
     → j < length c → slice_get (joined cs) i ≡ slice_get c j

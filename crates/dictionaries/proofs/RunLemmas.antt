@@ -1,4 +1,4 @@
--- Runs of values: their ends, their values one by one, and of some behind others.
+-- Runs of values: their ends, their values one by one, and of some after others.
 use Rattle.std.proofs.Common.{
   ◌≡◌,
   ℕ,
@@ -206,7 +206,7 @@ spread-get ds es i runs =
     let same : i - 0 ≡ i = omega arith in
     sym (get-from ds 0 es i runs.0 runs.1 (omega arith)) ∙ ap (slice_get (spread 0 ds es)) same
 
--- what is read of the values that are held
+-- what is read from the stored values
 pub held-get : (o : Option Datum) (hs ds xs : List Datum) (es : List ℕ) (i r : ℕ) → AreRuns ds es → hs ≡ ds
     → r ≡ prefix_len (λ x. nat_le x i) es → spread 0 ds es ≡ xs → o ≡ slice_get hs r → o ≡ slice_get xs i
 held-get o hs ds xs es i r runs are at view read =
@@ -219,14 +219,14 @@ spread-counted k (d ∷ ds) =
     ap (λ n. replicate n d ++ spread (suc k) ds (counted (suc k) (length ds))) once
     ∙ ap (λ r. d ∷ r) (spread-counted (suc k) ds)
 
--- values that stand once each
+-- values that are there once each
 pub single-values : (ds : List Datum) (n : ℕ) → n ≡ length ds → spread 0 ds (counted 0 n) ≡ ds
 single-values ds n is = ap (λ k. spread 0 ds (counted 0 k)) is ∙ spread-counted 0 ds
 
 pub single-runs : (ds : List Datum) (n : ℕ) → n ≡ length ds → AreRuns ds (counted 0 n)
 single-runs ds n is = (counted-length 0 n ∙ is, counted-rising 0 n)
 
--- held values that stand once each are the whole list
+-- stored values that are there once each are the whole list
 pub held-values : (hs ds xs : List Datum) (es : List ℕ) (n : ℕ) → AreRuns ds es → es ≡ counted 0 n
     → spread 0 ds es ≡ xs → hs ≡ ds → hs ≡ xs
 held-values hs ds xs es n runs single view are =

@@ -1,10 +1,10 @@
--- The definitions answer by computation.
+-- The definitions are computed.
 use Rattle.std.proofs.Common.{◌≡◌, [], ◌∷◌, true, false, refl}
 use Rattle.std.specs.Prelude.{pos, None}
 use Rattle.values.specs.Datum.{null, whole}
 use Rattle.dictionaries.specs.Batches.{batch, dictionary_after, found_after}
 
--- a delta first, another id, a batch in place of the first, and a delta behind that
+-- a delta first, another id, a batch that replaces the first, and a delta after that
 replaced :
     dictionary_after
     (batch (pos 7) true (null ∷ []) ∷ batch (pos 8) false (null ∷ []) ∷ batch (pos 7) false (whole (pos 1) ∷ []) ∷ batch

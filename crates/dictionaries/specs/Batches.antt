@@ -29,6 +29,6 @@ since_last_whole (b ∷ bs) = if list_any is_whole bs then since_last_whole bs e
 abbrev pub dictionary_after : List DictionaryBatch → ℤ → List Datum
 dictionary_after bs id = flat_map (λ b. b.values) (since_last_whole (filter (is_of id) bs))
 
--- those values, if a batch came for the id
+-- those values, if the id had a batch
 abbrev pub found_after : List DictionaryBatch → ℤ → Option (List Datum)
 found_after bs id = if list_any (is_of id) bs then Some (dictionary_after bs id) else None

@@ -6,7 +6,7 @@ use Rattle.std.specs.Ordering.{int_eq}
 use Rattle.values.specs.Datum.{Datum, datum_code}
 use Rattle.dictionaries.specs.Batches.{DictionaryBatch}
 
--- the values by id, and how many more ids fit with no allocation
+-- the values by id, and how many more ids fit without an allocation
 pub record Table : Type 0 where
   pub entries : List (ℤ × List Datum)
   pub room : ℕ
@@ -36,11 +36,11 @@ change_code =
 abbrev pub HasRoom : Table → Type 0
 HasRoom t = 0 < t.room
 
--- the values of an id, if a batch came for it
+-- the values of an id, if it had a batch
 abbrev pub found : Table → ℤ → Option (List Datum)
 found t id = lookup (int_eq id) t.entries
 
--- the values of an id, none where no batch came
+-- the values of an id, none where it had no batch
 abbrev pub values_in : Table → ℤ → List Datum
 values_in t id = unwrap_or (found t id) []
 

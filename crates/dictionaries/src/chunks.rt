@@ -10,7 +10,7 @@ use std::marker::Model;
 use std::rc::Rc;
 use values::Value;
 
-/// A run of a dictionary's values, in shared memory. Contracts see their list.
+/// Consecutive values of a dictionary, in shared memory. Contracts see their list.
 #[derive(Drop)]
 pub struct Chunk {
     values: Rc<ValueRuns>,
@@ -66,7 +66,7 @@ pub fn value_at(chunks: &[Chunk], i: usize) -> Option<&Value>
     None
 }
 
-/// The values of the chunks as one slice, where they lie in one chunk that holds each of them; `None` otherwise.
+/// The values of the chunks as one slice, where they lie in one chunk that stores each of them; `None` otherwise.
 #[tactic(auto, using(crate::proofs::JoinLemmas::one_chunk))]
 pub fn slice_of(chunks: &[Chunk]) -> Option<&[Value]>
     ensures { IfSome result (λ values. values.now ≡ joined chunks.now) }
@@ -77,11 +77,11 @@ pub fn slice_of(chunks: &[Chunk]) -> Option<&[Value]>
     }
 }
 
-/// How many of the chunks stay as they are when a chunk that holds `added` values is appended. The ones after these
-/// hold few values, and are merged with it.
+/// How many of the chunks stay as they are when a chunk that stores `added` values is appended. The ones after these
+/// store few values, and are merged with it.
 ///
-/// So each chunk holds more than twice as many values as the next: there are few chunks, and a held value is copied a
-/// logarithmic number of times.
+/// So each chunk stores more than twice as many values as the next: there are few chunks, and a stored value is copied
+/// a logarithmic number of times.
 fn unmerged(chunks: &[Chunk], added: usize) -> usize
     ensures { result ≤ length chunks.now }
 {

@@ -12,9 +12,9 @@ use indexmap::IndexMap;
 use std::alloc::{AllocError, Global};
 use std::marker::Model;
 
-/// The values of the dictionaries of a stream, by id, as its dictionary batches made them.
+/// The values of the dictionaries of a stream, by id, after its dictionary batches.
 ///
-/// Contracts see a `Table`: the values by id, and the room for more of them.
+/// Contracts see a `Table`: the values by id, and the capacity for more ids.
 #[derive(Drop)]
 pub struct Dicts {
     alloc: Global,
@@ -61,7 +61,7 @@ impl Dicts {
         }
     }
 
-    /// The dictionary of an id as it is now, if a batch came for it. It takes no memory.
+    /// The dictionary of an id as it is now, if it had a batch. It takes no memory.
     pub fn lookup(&self, id: i64) -> Option<&Dictionary>
         ensures { option_copied result ≡ found self.now id }
     {
@@ -71,7 +71,7 @@ impl Dicts {
         }
     }
 
-    /// The dictionary of an id as it is now, shared: empty where no batch came for it.
+    /// The dictionary of an id as it is now, shared: empty where it had no batch.
     pub fn share(&self, id: i64) -> Result<Dictionary, AllocError>
         ensures { IfOk result (λ d. d ≡ values_in self.now id) }
     {
@@ -109,9 +109,9 @@ impl Dicts {
         self.by_id.insert(id, latest).unwrap();
     }
 
-    /// Counts slots of a record batch: so many stand for values of each dictionary. A dictionary whose values can't be
-    /// lent as a slice is laid in one part, of copies, once there were enough slots to pay for it, if there is memory for
-    /// it. Each keeps its values, and one that was handed out stays as it is.
+    /// Counts slots of a record batch, as many for each dictionary. A dictionary whose values can't be read as a slice
+    /// is gathered into one part, of copies, once there were enough slots to pay for it, if there is memory for it.
+    /// Each keeps its values, and one that was handed out stays as it is.
     #[tactic(auto, using(crate::proofs::GatherLemmas::replacing))]
     pub fn count_slots(&mut self, slots: usize)
         ensures { self.new.entries ≡ self.old.entries }

@@ -10,7 +10,7 @@ use std::marker::Model;
 use std::rc::Rc;
 use values::Value;
 
-/// The values of a dictionary as they stood at one time, nulls among them. They never change.
+/// The values of a dictionary as they were at one time, nulls among them. They never change.
 ///
 /// Contracts see their list.
 #[derive(Drop)]
@@ -83,7 +83,7 @@ impl Dictionary {
         Ok(values)
     }
 
-    /// The same dictionary, of copies of its values, which lie in one part, each by itself.
+    /// The same dictionary, with copies of its values, which lie in one part, each stored by itself.
     pub(crate) fn gathered(&self, alloc: Global) -> Result<Dictionary, AllocError>
         ensures { IfOk result (λ d. d ≡ self.now) }
     {
@@ -130,8 +130,8 @@ impl Dictionary {
         value_at(self.chunks.as_ref().as_slice(), i)
     }
 
-    /// All values as one slice, which takes one look for any number of them; `None` for a dictionary that lies in
-    /// several parts, or that holds a repeated value once, whose values `get` finds. It takes no memory.
+    /// All values as one slice, which takes one look-up for any number of them; `None` for a dictionary that lies in
+    /// several parts, or that stores a repeated value once, whose values `get` finds. It takes no memory.
     pub fn as_slice(&self) -> Option<&[Value]>
         ensures { IfSome result (λ values. values.now ≡ self.now) }
     {

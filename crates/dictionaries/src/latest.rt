@@ -7,10 +7,10 @@ use crate::value_runs::ValueRuns;
 use std::alloc::{AllocError, Global};
 use std::marker::Model;
 
-/// How many bytes of values may be copied for each slot that stands for one of them.
+/// How many bytes of values may be copied for each slot that refers to one of them.
 const BYTES_FOR_A_SLOT: usize = 4;
 
-/// The latest version of a dictionary, and how many slots stood for values of it since these were last gathered.
+/// The latest version of a dictionary, and how many slots referred to its values since these were last gathered.
 /// Contracts see the list of its values.
 #[derive(Drop)]
 pub struct Latest {
@@ -58,10 +58,11 @@ impl Latest {
         &self.dictionary
     }
 
-    /// Counts slots that stand for values of the dictionary. Where the values can't be lent as a slice, and the slots
-    /// so far pay for it, they are gathered: then they can. Where memory for that is refused they stay as they lie.
+    /// Counts slots that refer to values of the dictionary. Where the values can't be read as a slice, and the slots so
+    /// far pay for it, they are gathered: then they can. Where memory for that is refused they stay as they are.
     ///
-    /// So the bytes that are copied are at most so many times the slots that came, whatever deltas came between them.
+    /// So the bytes that are copied are at most `BYTES_FOR_A_SLOT` times the slots that were counted, whatever deltas
+    /// came between them.
     pub(crate) fn count_slots(&mut self, alloc: Global, slots: usize)
         ensures { self.new ≡ self.old }
     {

@@ -1,6 +1,6 @@
-//! The values of dictionaries by id, as dictionary batches bring them (Arrow Columnar Format, "Dictionary Messages").
+//! The values of dictionaries by id, after dictionary batches (Arrow Columnar Format, "Dictionary Messages").
 //!
-//! A batch that isn't a delta brings new values for its id, a delta adds to those that are there. A [`Dictionary`] that
+//! A batch that isn't a delta has new values for its id, a delta adds to those that are there. A [`Dictionary`] that
 //! was handed out keeps its values. `specs/Batches.antt` says what the values are after any batches, and contracts see
 //! a `Dictionary` as the list of its values.
 #![tactic(auto)]

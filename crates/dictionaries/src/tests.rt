@@ -136,7 +136,7 @@ fn many_small_deltas(rt: HostRuntime) -> Result<(), Fail> {
     Ok(())
 }
 
-/// So many nulls.
+/// This many nulls.
 fn nulls(alloc: Global, count: usize) -> Result<ValueRuns, AllocError> {
     ValueRuns::repeated(alloc, Value { kind: Kind::Null }, count)
 }

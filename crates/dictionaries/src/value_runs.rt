@@ -1,4 +1,4 @@
-//! Lists of values that hold a repeated value once.
+//! Lists of values that store a repeated value once.
 
 ghost use Rattle.std.specs.Prelude.{◌≡◌, ◌++◌, IfOk, IfSome, length, replicate, slice_get};
 ghost use Rattle.std.specs.Option.{option_copied};
@@ -8,7 +8,7 @@ use std::alloc::{AllocError, Global};
 use std::marker::Model;
 use values::{Kind, Value, copy_row};
 
-/// A list of values that holds a repeated value once. Contracts see the whole list.
+/// A list of values that stores a repeated value once. Contracts see the whole list.
 #[derive(Drop)]
 pub struct ValueRuns {
     held: Vec<Value>,
@@ -30,10 +30,10 @@ impl Model for ValueRuns {
     ghost invariant = { λ r. AreRuns r.held.items (ends_in r.ends) };
 }
 
-/// The bytes of a place for a value.
+/// The bytes of a `Value` itself.
 const PLACE_BYTES: usize = 32;
 
-/// The bytes that a copy of a value takes: its place, and its text or its bytes.
+/// The bytes that a copy of a value takes: those of the `Value`, and its text or its bytes.
 fn weight_of(value: &Value) -> usize {
     PLACE_BYTES.saturating_add(match &value.kind {
         Kind::Utf8(text) => text.len(),
@@ -66,7 +66,7 @@ fn value_in(values: &[Value], i: usize) -> Option<&Value>
 
 #[tactic(auto, using(crate::proofs::RunLemmas::spreading))]
 impl ValueRuns {
-    /// The list of these values, each of which is held.
+    /// The list of these values, each of which is stored.
     pub fn each(values: Vec<Value>) -> ValueRuns
         ensures { result ≡ values.items }
     {
@@ -74,7 +74,7 @@ impl ValueRuns {
         ValueRuns { held: values, ends }
     }
 
-    /// The list of `count` times the same value, which is held once.
+    /// The list of `count` times the same value, which is stored once.
     pub fn repeated(alloc: Global, value: Value, count: usize) -> Result<ValueRuns, AllocError>
         ensures { IfOk result (λ r. r ≡ replicate count value) }
     {
@@ -95,7 +95,7 @@ impl ValueRuns {
         self.ends.len()
     }
 
-    /// The number of values that are held, one for each run.
+    /// The number of values that are stored, one for each run.
     pub(crate) fn held(&self) -> usize {
         self.held.len()
     }
@@ -115,7 +115,7 @@ impl ValueRuns {
         value_in(&self.held, self.ends.run_of(i))
     }
 
-    /// The values as one slice, where each of them is held; `None` where they are held by runs.
+    /// The values as one slice, where each of them is stored; `None` where they are stored by runs.
     pub(crate) fn as_slice(&self) -> Option<&[Value]>
         ensures { IfSome result (λ values. values.now ≡ self.now) }
     {

@@ -1,4 +1,4 @@
--- What a batch and a dictionary batch bring, from the laws of how their arrays lie.
+-- What a batch and a dictionary batch hold, from the laws of how their arrays lie.
 use Rattle.std.proofs.Common.{
   ◌≡◌,
   ℕ,

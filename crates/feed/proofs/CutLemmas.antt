@@ -53,7 +53,7 @@ use Rattle.feed.specs.States.{FeedState, retained_in, gives, given_when, closed,
 use Rattle.feed.specs.CutLaw.{PartialJoins, WholeStays, FaultsStay, WholeUses, PartialUses, shifted}
 use Rattle.feed.proofs.RetainedLemmas.{same-range, front-below, retained_here, after-partial, left-after}
 
--- two ends of one thing
+-- two ends of one reading
 pub ok-err : {X : Type 0} (m : Reading X) (x : X) (fs : Faults) → m ≡ Ok x → m ≡ Err fs → ⊥
 ok-err (Ok y) x fs a b = absurd (cc)
 ok-err (Err gs) x fs a b = absurd (cc)

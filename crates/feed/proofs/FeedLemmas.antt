@@ -1,4 +1,4 @@
--- What a feed shows before and after a call.
+-- The state that a feed represents before and after a call.
 use Rattle.std.proofs.Common.{
   ◌≡◌,
   ℕ,
@@ -99,7 +99,7 @@ unfolding retained_of retained
 open-shows law declared framing table change next stream none =
     record { stream = stream; dictionaries = law table none; condition = refl }
 
--- what a feed's view shows, its parts show
+-- what holds of a feed's view holds of its parts
 pub shown : (f g : FeedParts) (s : FeedState) → f ≡ g → Shows g s → Shows f s
 shown f g s same shows = subst (λ x. Shows x s) (sym same) shows
 
@@ -109,11 +109,11 @@ opened f g same is = ap (λ x. x.condition) same ∙ is
 pub is-at : (f : FeedParts) (s : FeedState) → Shows f s → IsAt (retained_in s) f.framing.current f.table
 is-at f s shows = (shows.stream, shows.dictionaries)
 
--- entries that are the same stand for the same
+-- entries that are the same have the same values
 stands-same : (bs : List DictionaryBatch) (t u : Table) → u.entries ≡ t.entries → HoldsAfter bs t → HoldsAfter bs u
 stands-same bs t u same stands = λ id. ap (λ es. lookup (int_eq id) es) same ∙ stands id
 
--- a feed that nothing happened to but its condition
+-- a feed of which only the condition changed
 pub shows-in :
     (f : FeedParts) (s : FeedState) (framing : FramerState) (table : Table) (c : Condition) (change : Option Change)
     (next : Condition) → Shows f s
@@ -297,7 +297,7 @@ unfolding after_push
 closed-fault f s piece framing change next shows stream =
     shows-in f s framing f.table condition.Broken change next shows stream refl
 
--- An empty piece leads to where the feed stands.
+-- An empty piece leads to the feed's own state.
 pub leads-empty : (f : FeedParts) (s : FeedState) (piece : List ℕ) → Leads f s
     → Leads f (after_push s piece (Ok (given 0 None)))
 unfolding after_push
@@ -305,7 +305,7 @@ leads-empty f s piece leads =
     subst (λ bs. Leads f (record { declared = s.declared; bytes = bs; condition = s.condition }))
     (sym (append-nil s.bytes)) leads
 
--- nothing is made ready
+-- nothing is prepared
 pub nothing_prepared : (f : FeedParts) → f.framing.prepared ≡ f.framing.current → f.change ≡ None → f.next ≡ f.condition
     → NothingPrepared f
 nothing_prepared f framing none next = λ s shows. record {
@@ -314,7 +314,7 @@ nothing_prepared f framing none next = λ s shows. record {
   condition = next ∙ shows.condition;
 }
 
--- what a feed shows is of its stream, its dictionaries and its condition alone
+-- the state that a feed represents depends on its stream, its dictionaries and its condition alone
 pub shows-same :
     (f g : FeedParts) (s : FeedState) → g.framing.current ≡ f.framing.current → g.table ≡ f.table
     → g.condition ≡ f.condition → Shows f s → Shows g s

@@ -1,4 +1,4 @@
--- The reading of a stream, out of its transcript.
+-- The reading of a stream, from its transcript.
 use Rattle.std.proofs.Common.{
   ◌≡◌,
   inl,
@@ -81,7 +81,7 @@ with_schema-rows : (o : Option (List (Rose Entry))) (rows : List (List Datum)) (
 with_schema-rows None rows s = refl
 with_schema-rows (Some fields) rows s = refl
 
--- the end of the input of a feed that goes on, by what it holds
+-- the end of the input of a feed that goes on, by the bytes that it holds
 open-end : (s : FeedState) (held : List ℕ) → s.condition ≡ condition.Opened → (retained_in s).held ≡ held
     → input_end (Ok s) ≡ (if length held == 0 then at_input_end (retained_in s).known.schema
     else Err (one fault.Truncated))
@@ -147,7 +147,7 @@ module _ (laws : FirstMessageLaw) where
             (brings laws (retained_in s).known ((retained_in s).held ++ bytes) w found) m)
       ]
 
-  -- where a feed stands between two messages, the reading of what is left is what its transcript tells, with the schema
+  -- where a feed is between two messages, the reading of what remains is what its transcript means, with the schema
   -- that is known
   abbrev ReportsIn : ℕ → Type 0
   ReportsIn n =

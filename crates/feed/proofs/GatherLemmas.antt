@@ -112,7 +112,7 @@ columns-end body left made whole empty is =
     let P : Roses ArrayData → Type 0 = λ ts. with_front (cells_in made) (columns_in body ts) ≡ whole in
     sym (subst P empty is) ∙ ap (λ zs. Ok zs) (append-nil (cells_in made))
 
--- the arrays that are left are placed
+-- the buffers of the remaining arrays are found
 pub placed-first : (body : List ℕ) (left rest : Roses ArrayData) (a : Rose ArrayData) → left ≡ more a rest
     → ArePlaced body left → IsPlaced body a
 placed-first body left rest a split all =

@@ -1,4 +1,4 @@
--- What is kept of some bytes, and of more of them.
+-- What is retained of some bytes, and of more of them.
 use Rattle.std.proofs.Common.{
   ◌≡◌,
   ℕ,
@@ -47,7 +47,7 @@ use Rattle.feed.specs.Retained.{Retained, retained, retained_of, retained_after,
 abbrev pub retained_here : Known → List DictionaryBatch → List ℕ → Retained
 retained_here known ds bytes = record { known = known; dictionaries = ds; held = bytes }
 
--- bytes behind a message don't bear on its body
+-- bytes after a message don't affect its body
 pub same-range : (bytes more : List ℕ) (a b : ℕ) → a ≤ b → b ≤ length bytes
     → slice_range (bytes ++ more) a b ≡ slice_range bytes a b
 same-range bytes more a b order within =
@@ -73,7 +73,7 @@ take-range xs a b order =
     subst (λ n. drop a (take n xs) ≡ take (b - a) (drop a xs)) sum (drop-take a (b - a) xs) in
     ap (λ ys. take (b - a) ys) cut ∙ take-twice (b - a) (drop a xs)
 
--- what is kept behind a message that a piece makes whole
+-- what is retained after a message that a piece completes
 abbrev pub retained_past : Retained → List ℕ → Whole → Retained
 retained_past k piece w =
     record {
@@ -102,7 +102,7 @@ module _ (laws : FirstMessageLaw) where
       → retained n known ds [] ≡ retained_here known ds []
   retained-empty n known ds = retained-none n known ds [] (laws.none known)
 
-  -- how many bytes are behind a message
+  -- how many bytes come after a message
   pub left-after : (known : Known) (bytes : List ℕ) (w : Whole) → first known bytes ≡ Ok (Some w)
       → length (drop (end_of w) bytes) + 8 ≤ length bytes
   left-after known bytes w is =
@@ -154,7 +154,7 @@ module _ (laws : FirstMessageLaw) where
         let now : Known = after known w.meta in
         omega (arith, less, short now (ds ++ brought now bytes w) (drop (end_of w) bytes))
 
-  -- what is kept of all bytes, from what is kept of the first ones
+  -- what is retained of all bytes, from what is retained of the first ones
   abbrev resumed : ℕ → Retained → List ℕ → Retained
   resumed n k more = retained n k.known k.dictionaries (k.held ++ more)
 

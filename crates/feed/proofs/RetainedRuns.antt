@@ -1,4 +1,4 @@
--- What is kept of some bytes, and the messages that they have.
+-- What is retained of some bytes, and the messages in them.
 use Rattle.std.proofs.Common.{
   ◌≡◌,
   ℕ,
@@ -37,7 +37,7 @@ use Rattle.feed.specs.Retained.{Retained, brought, retained, retained_after, ret
 use Rattle.feed.specs.RetainedLaw.{RetainedByMessages}
 use Rattle.feed.proofs.CutLemmas.{ok-same}
 
--- what is kept after these dictionary batches
+-- what is retained after these dictionary batches
 abbrev retained_from : List DictionaryBatch → List MessageView → Stream → Retained
 retained_from ds messages s =
     record { known = s.known; dictionaries = ds ++ flat_map message_brings messages; held = s.held }

@@ -1,4 +1,4 @@
--- What the events of a feed tell of the whole stream.
+-- What the events of a feed say of the whole stream.
 use Rattle.std.proofs.Common.{
   ◌≡◌,
   ◌⊎◌,
@@ -108,7 +108,7 @@ zero_cases n = zero_by n (n == 0) refl
 abbrev story_with : Option (List (Rose Entry)) → List (List Datum) → Reading (Unit {0}) → Story
 story_with fields rows end = record { schema = fields; rows = rows; end = end }
 
--- the story of what is left
+-- the story of what remains
 abbrev left : Known → List DictionaryBatch → List ℕ → Story
 left known ds bytes = story (length bytes) known ds bytes
 
@@ -245,7 +245,7 @@ module _ (laws : FirstMessageLaw) where
       let less = left-after laws known bytes w is in
       omega (arith, less)
 
-  -- what is kept after a message between two
+  -- what is retained after a message between two
   pub retained-next :
       (s : FeedState) (bytes : List ℕ) (used : ℕ) (e : Event) (w : Whole)
       → first (retained_in s).known ((retained_in s).held ++ bytes) ≡ Ok (Some w)
@@ -276,7 +276,7 @@ module _ (laws : FirstMessageLaw) where
   unfolding rows_of
   rows-of k now b body columns is = ap (λ m. mapped (rows_in b.rows) m) is
 
-  -- what a message tells, by its header and the event that it is
+  -- the meaning of a message, by its header and its event
   tells-by :
       (k : Retained) (now : Known) (h : Header) (body rest : List ℕ) (e : Event)
       → event_by now k.dictionaries body h ≡ Ok e
@@ -327,7 +327,7 @@ module _ (laws : FirstMessageLaw) where
       subst (λ x. ends now (at_end_mark rest) ≡ rest_story_from x
       (record { known = now; dictionaries = k.dictionaries ++ []; held = [] }) rest) seen refl
 
-  -- the schema of what an event tells
+  -- the schema after an event
   from-schema :
       (e : Event) (k : Retained) (rest : List ℕ) (fields : List (Rose Entry)) → k.known.schema ≡ Some fields
       → (rest_story_from e k rest).schema ≡ Some fields
@@ -440,7 +440,7 @@ module _ (laws : FirstMessageLaw) where
             ∙ ap (λ f. ends now (Err f)) gs_is ∙ ends-same now k.known (Err fs) same
   body-fault k now header.End body rest fs same is = absurd (cc)
 
-  -- only a schema message brings a schema, and it has no fault in its body
+  -- only a Schema message has a schema, and it has no fault in its body
   schema-same :
       (k : Retained) (bytes body : List ℕ) (w : Whole) (fs : Faults) (h : Header)
       → Brings k.known.schema w.meta.schema h

@@ -124,7 +124,7 @@ module _ (laws : FirstMessageLaw) where
       ap (λ n. record { declared = s.declared; bytes = s.bytes ++ take n []; condition = s.condition }) none
       ∙ ap (λ bs. record { declared = s.declared; bytes = bs; condition = s.condition }) (append-nil s.bytes)
 
-  -- A piece without an event is read with what comes behind it.
+  -- A piece without an event is read with what comes after it.
   joins : (s : FeedState) (p q : List ℕ) (u : ℕ) → gives s p ≡ Ok (given u None) → u ≡ length p
       → transcript s (p ++ q) ≡ transcript (after_push s p (Ok (given u None))) q
   joins s [] q u is all = ap (λ t. transcript t q) (sym (stays s u all))
@@ -150,7 +150,7 @@ module _ (laws : FirstMessageLaw) where
         ∙ ap (λ ys. led_by g.event (transcript (after_push t (y ∷ q) (Ok g)) ys)) (drop-joined g.used (x ∷ p) (y ∷ q))
         ∙ sym (step t y q (Ok g) at)
 
-  -- A whole message comes first, and then what is behind it.
+  -- A whole message comes first, and then what comes after it.
   whole-first : (s : FeedState) (p q : List ℕ) (u : ℕ) (e : Event) → gives s p ≡ Ok (given u (Some e))
       → (0 < u) × (u ≤ length p)
       → transcript s (p ++ q) ≡ led_by (Some e) (transcript (after_push s p (Ok (given u (Some e)))) (drop u p ++ q))

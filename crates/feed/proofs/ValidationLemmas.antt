@@ -1,4 +1,4 @@
--- What a piece comes to, by the message that it makes whole.
+-- The outcome for a piece, by the message that it completes.
 use Rattle.std.proofs.Common.{
   ◌≡◌,
   ℕ,
@@ -235,7 +235,7 @@ leads-whole laws declared bytes old new t u piece used m change at c adds =
       subst (λ v. WillHoldAfter (k.dictionaries ++ message_brings v) u change) c.seen (adds k.dictionaries at.1),
     )
 
--- The dictionaries' values are of their types also once a message brings a schema: there are none yet.
+-- The dictionaries' values are of their types also after a Schema message: there are none yet.
 has-brought :
     (o m : Option (List (Rose Entry))) (h : Header) (values : ℤ → List Datum) → Brings o m h → HasValues o values
     → HasValues (schema_after o m) values

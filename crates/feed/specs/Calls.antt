@@ -1,4 +1,4 @@
--- Definitions that the contracts of a feed name, from any state that it shows.
+-- Definitions that the contracts of a feed name, from any state that it represents.
 use Rattle.std.specs.Prelude.{◌≡◌, ℕ, ℤ, ◌++◌, List, Option, Some, Result, Ok, Err, All, IfSome, IsSome, take}
 use Rattle.values.specs.Datum.{Datum}
 use Rattle.values.specs.Layouts.{Holds}
@@ -78,11 +78,11 @@ message_brings m = brought_by m.schema m.body m.header
 abbrev pub IsFollowed : Coming → Type 0
 IsFollowed c = c.next ≡ condition_after condition.Opened (Some (event_seen c.event))
 
--- Where some dictionary batches came before, these come to them by a change.
+-- These dictionary batches follow from those that came before by a change.
 abbrev pub Adds : Table → Table → Option Change → List DictionaryBatch → Type 0
 Adds old new c more = (ds : List DictionaryBatch) → HoldsAfter ds old → WillHoldAfter (ds ++ more) new c
 
--- What is said of an open feed, whatever it keeps that stands there.
+-- A claim about an open feed, for each `Retained` that it may be at.
 abbrev pub AtEach : Stream → Table → (Retained → Type 0) → Type 0
 AtEach stream t claim = (k : Retained) → IsAt k stream t → claim k
 
@@ -98,7 +98,7 @@ HasNext fields t j = HasValues fields (values_next t (change_coming j.coming))
 abbrev pub IsTypedComing : Option (List (Rose Entry)) → Validated → Type 0
 IsTypedComing fields j = IfSome j.coming (λ c. IsTypedEvent fields c.event)
 
--- Where an event is returned, the call might as well have run out of memory.
+-- Where an event is returned, the call might as well have been refused memory.
 abbrev pub MayLackFor : FeedParts → List ℕ → Fed → Type 0
 MayLackFor f piece fed = IsSome fed.event → MayAnswer f piece (Err fault.Memory)
 

@@ -1,4 +1,4 @@
--- The checked columns of a batch: their cells, and how they lie in memory.
+-- The checked columns of a batch: their cells, and their layouts.
 use Rattle.std.specs.Prelude.{List, map}
 use Rattle.values.specs.Datum.{Datum}
 use Rattle.values.specs.Rose.{Roses, kids_of}

@@ -14,7 +14,7 @@ PartialJoins =
     (s : FeedState) (p q : List ℕ) (g : Given) → gives s p ≡ Ok g → g.event ≡ None
     → gives s (p ++ q) ≡ shifted (length p) (gives (after_push s p (Ok g)) q)
 
--- More bytes change neither a whole message nor the faults that stand.
+-- More bytes change neither a whole message nor the faults.
 abbrev pub WholeStays : Type 0
 WholeStays =
     (s : FeedState) (p q : List ℕ) (used : ℕ) (e : Event) → gives s p ≡ Ok (given used (Some e))

@@ -1,5 +1,5 @@
--- What a piece gives after the bytes of which this is kept: all of it is consumed, or it completes a message, which is
--- an event.
+-- What a piece gives after the bytes of which this is retained: all of it is consumed, or it completes a message, which
+-- is an event.
 use Rattle.std.specs.Prelude.{ℕ, ℤ, Bool, ◌-◌, ◌++◌, List, Option, None, Some, Ok, length, slice_range}
 use Rattle.values.specs.Datum.{Datum}
 use Rattle.values.specs.Reading.{Reading, ◌>>=◌, mapped}

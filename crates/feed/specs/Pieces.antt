@@ -17,14 +17,14 @@ abbrev pub End : Type 0
 End = Result FeedState StreamFault
 
 -- Pushing pieces to a feed gives these events and comes to this end. What a push leaves of a piece is pushed next. A
--- push that memory ran out in left the feed as it was, and doesn't count.
+-- push that was refused memory left the feed as it was, and doesn't count.
 pub data Feeds : FeedState → List (List ℕ) → List Event → End → Type 0 where
-  -- No piece is left.
+  -- No piece remains.
   all_pushed : (s : FeedState) → Feeds s [] [] (Ok s)
-  -- Nothing is left of a piece.
+  -- Nothing remains of a piece.
   used_up : (s : FeedState) (pieces : List (List ℕ)) (events : List Event) (end : End) → Feeds s pieces events end
       → Feeds s ([] ∷ pieces) events end
-  -- A push takes some of a piece.
+  -- A push uses some of a piece.
   pushed : (s : FeedState) (piece : List ℕ) (pieces : List (List ℕ)) (g : Given) (events : List Event) (end : End)
       → gives s piece ≡ Ok g → Feeds (after_push s piece (Ok g)) (drop g.used piece ∷ pieces) events end
       → Feeds s (piece ∷ pieces) (with_event g.event events) end
@@ -32,7 +32,7 @@ pub data Feeds : FeedState → List (List ℕ) → List Event → End → Type 0
   refused : (s : FeedState) (piece : List ℕ) (pieces : List (List ℕ)) (c : StreamFault) → 0 < length piece
       → FailsWith (gives s piece) c → Feeds s (piece ∷ pieces) [] (Err c)
 
--- Where no byte is left there is no event.
+-- Where no byte remains there is no event.
 abbrev pub NothingLeft : Type 0
 NothingLeft = (s : FeedState) → transcript s [] ≡ no_events (Ok s)
 
@@ -44,7 +44,7 @@ PushKeeps =
     → transcript s (piece ++ later) ≡ led_by g.event
     (transcript (after_push s piece (Ok g)) (drop g.used piece ++ later))
 
--- Where faults stand in a piece they end the transcript, whatever comes later.
+-- Where a piece has faults they end the transcript, whatever comes later.
 abbrev pub RefusalEnds : Type 0
 RefusalEnds =
     (s : FeedState) (piece later : List ℕ) (fs : Faults) → 0 < length piece → gives s piece ≡ Err fs
@@ -55,8 +55,8 @@ pub record Follows (events : List Event) (end : End) (t : Transcript) : Type 0 w
   pub same : t.events ≡ events
   pub left : Yields (λ s. s) end t.end
 
--- Pushing pieces gives the events of all their bytes, and leaves the feed where they lead, or a refusal names one of
--- the faults that stand there.
+-- Pushing pieces gives the events of all their bytes, and leaves the feed in the state to which they lead, or a refusal
+-- names one of the faults in which they end.
 abbrev pub FeedFollows : Type 0
 FeedFollows =
     (s : FeedState) (pieces : List (List ℕ)) (events : List Event) (end : End) → Feeds s pieces events end

@@ -1,4 +1,4 @@
--- What is kept of the bytes that a feed consumed. docs/ARCHITECTURE.md has a picture of it.
+-- What is retained of the bytes that a feed consumed. docs/ARCHITECTURE.md has a picture of it.
 use Rattle.std.specs.Prelude.{ℕ, zero, suc, List, [], ◌∷◌, ◌++◌, Option, None, Some, Ok, Err, length, drop, slice_range}
 use Rattle.values.specs.Datum.{Datum}
 use Rattle.values.specs.Reading.{Reading}
@@ -31,7 +31,7 @@ abbrev pub taken : DictionaryHeader → Reading (List Datum) → List Dictionary
 taken d (Ok values) = batch d.id d.is_delta values ∷ []
 taken d (Err fs) = []
 
--- the dictionary batch that a message is, if it is one
+-- the dictionary batch in a message, if there is one
 abbrev pub brought_by : List (Rose Entry) → List ℕ → Header → List DictionaryBatch
 brought_by fields body header.Schema = []
 brought_by fields body (header.Dictionary d) = taken d (values_of fields d body)
@@ -48,7 +48,7 @@ retained_after next known ds bytes (Ok (Some w)) =
 retained_after next known ds bytes (Ok None) = record { known = known; dictionaries = ds; held = bytes }
 retained_after next known ds bytes (Err fs) = record { known = known; dictionaries = ds; held = bytes }
 
--- what is kept after these bytes, of which at most n messages are read
+-- what is retained after these bytes, of which at most n messages are read
 unfoldable pub retained : ℕ → Known → List DictionaryBatch → List ℕ → Retained
 retained zero known ds bytes = record { known = known; dictionaries = ds; held = bytes }
 retained (suc n) known ds bytes = retained_after (retained n) known ds bytes (first known bytes)

@@ -1,4 +1,4 @@
--- What a feed keeps, by the messages that its framer returns.
+-- What a feed retains, by the messages that its framer returns.
 use Rattle.std.specs.Prelude.{◌≡◌, ℕ, List, Option, Ok, flat_map}
 use Rattle.values.specs.Logical.{NamedType}
 use Rattle.values.specs.Rose.{Rose}
@@ -13,7 +13,7 @@ use Rattle.feed.specs.Retained.{Retained, retained_of}
 abbrev pub retained_by : List MessageView → Stream → Retained
 retained_by messages s = record { known = s.known; dictionaries = flat_map message_brings messages; held = s.held }
 
--- It is that of the messages of all the bytes, where no fault stands in their framing or their metadata.
+-- It is that of the messages of all the bytes, where their framing and their metadata have no fault.
 abbrev pub RetainedByMessages : Type 0
 RetainedByMessages =
     (declared : Option (List (Rose NamedType))) (bytes : List ℕ) (s : Stream)

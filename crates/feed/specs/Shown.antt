@@ -1,4 +1,4 @@
--- Which states, given by consumed bytes, a feed in memory shows.
+-- Which states, given by consumed bytes, a feed in memory represents.
 use Rattle.std.specs.Prelude.{
   ◌≡◌,
   ℕ,
@@ -62,7 +62,7 @@ parts_code =
     (λ p. record { framing = p.0; table = p.1.0; condition = p.1.1.0; change = p.1.1.1.0; next = p.1.1.1.1 })
     (λ _. refl)
 
--- an open feed has just what is kept
+-- an open feed has just what is retained
 abbrev pub IsAt : Retained → Stream → Table → Type 0
 IsAt k stream t = (stream ≡ stream_in k) × HoldsAfter k.dictionaries t
 
@@ -87,7 +87,7 @@ values_next t (Some c) id = if int_eq c.id id then c.values else values_in t id
 abbrev pub WillHoldAfter : List DictionaryBatch → Table → Option Change → Type 0
 WillHoldAfter bs t c = (id : ℤ) → found_next t c id ≡ found_after bs id
 
--- an open feed will have just what is kept, once a change is made
+-- an open feed will have just what is retained, once a change is made
 abbrev pub WillBeAt : Retained → Stream → Table → Option Change → Type 0
 WillBeAt k stream t c = (stream ≡ stream_in k) × WillHoldAfter k.dictionaries t c
 
@@ -141,7 +141,7 @@ abbrev pub change_coming : Option Coming → Option Change
 change_coming None = None
 change_coming (Some c) = c.change
 
--- The columns of a batch lie as those of the schema do, and have a cell a row.
+-- The columns of a batch have the layouts of the schema's columns, and one cell for each row.
 abbrev pub HasColumns : List (Rose Entry) → List CheckedColumn → ℕ → Type 0
 HasColumns fields columns rows = (layouts_in columns ≡ layouts_of fields) × All (λ c. length c.cells ≡ rows) columns
 

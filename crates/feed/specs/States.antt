@@ -66,7 +66,7 @@ given_when condition.Broken k piece = closed piece
 unfoldable pub gives : FeedState → List ℕ → Reading Given
 gives s piece = given_when s.condition (retained_in s) piece
 
--- Memory may run out where a piece is taken that isn't empty.
+-- Memory may be refused where a piece is pushed that isn't empty.
 abbrev pub MayLack : Condition → List ℕ → Type 0
 MayLack condition.Opened piece = 0 < length piece
 MayLack _ piece = ⊥
@@ -87,7 +87,7 @@ condition_after c None = c
 abbrev pub in_condition : FeedState → Condition → FeedState
 in_condition s c = record { declared = s.declared; bytes = s.bytes; condition = c }
 
--- A fault breaks the feed. Where memory ran out, nothing was done.
+-- A fault breaks the feed. Where memory was refused, nothing was done.
 abbrev pub condition_faulty : StreamFault → Condition → Condition
 condition_faulty fault.Memory c = c
 condition_faulty _ c = condition.Broken
@@ -104,7 +104,7 @@ after_push s piece (Ok g) =
     }
 after_push s piece (Err c) = after_fault s c
 
--- The input may end between two messages where a schema came, and after the end.
+-- The input may end between two messages after a schema, and after the end.
 abbrev pub at_finish : Stream → Reading (Unit {0})
 at_finish stream = if length stream.held == 0 then at_input_end stream.known.schema else Err (one fault.Truncated)
 

@@ -13,11 +13,11 @@ use Rattle.feed.specs.Events.{Event, batch, dictionary, ended, schema, given}
 use Rattle.feed.specs.States.{FeedState, after_push, finishing_when, fresh, gives, retained_in}
 use Rattle.feed.specs.Transcript.{Transcript, transcript}
 
--- the reading of these bytes after those of which this is kept
+-- the reading of these bytes after those of which this is retained
 abbrev pub rest_story : Retained → List ℕ → Story
 rest_story k bytes = story (length bytes) k.known k.dictionaries bytes
 
--- an event, and then the reading of the bytes after it, where this is kept after it
+-- an event, and then the reading of the bytes after it, where this is retained after it
 abbrev pub rest_story_from : Event → Retained → List ℕ → Story
 rest_story_from (schema fields) k rest = rest_story k rest
 rest_story_from (dictionary id delta values) k rest = rest_story k rest
@@ -81,14 +81,14 @@ rows_at (dictionary id delta values) = []
 rows_at (batch columns rows body) = rows_in rows columns
 rows_at ended = []
 
--- whether the input may end where the feed stands then
+-- whether the input may end in the state of the feed
 abbrev pub input_end : Reading FeedState → Reading (Unit {0})
 input_end end = end >>= λ s. finishing_when s.condition (stream_in (retained_in s))
 
--- what a transcript tells: the schema among its events, the rows of its batches, and whether the input may end there
+-- what a transcript means: the schema among its events, the rows of its batches, and whether the input may end there
 abbrev pub story_in : Transcript → Story
 story_in t = record { schema = schema_in t.events; rows = flat_map rows_at t.events; end = input_end t.end }
 
--- The reading of a whole stream is what its transcript tells.
+-- The reading of a whole stream is what its transcript means.
 abbrev pub EventsReportAll : Type 0
 EventsReportAll = (bytes : List ℕ) → story_of bytes ≡ story_in (transcript (fresh None) bytes)

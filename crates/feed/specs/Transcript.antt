@@ -4,7 +4,7 @@ use Rattle.values.specs.Reading.{Reading}
 use Rattle.feed.specs.Events.{Event, Given}
 use Rattle.feed.specs.States.{FeedState, after_push, gives}
 
--- the events, and then the faults that stand, or where the feed stands once all bytes are consumed
+-- the events, and then the faults, or the state of the feed once all bytes are consumed
 pub record Transcript : Type 0 where
   pub events : List Event
   pub end : Reading FeedState

@@ -34,7 +34,7 @@ fn read_cells(alloc: Global, column: &Column) -> Result<Vec<Value>, AllocError>
     Ok(cells)
 }
 
-/// A list of `count` values of width 0, of which one is held.
+/// A list of `count` values of width 0, of which one is stored.
 fn empty_values(alloc: Global, count: usize) -> Result<ValueRuns, AllocError>
     ensures { IfOk result (λ vs. vs ≡ replicate count (bytes [])) }
 {
@@ -44,7 +44,8 @@ fn empty_values(alloc: Global, count: usize) -> Result<ValueRuns, AllocError>
     ValueRuns::repeated(alloc, empty, count)
 }
 
-/// The cells of a column as values: where they have no bytes, and so any number of them may be claimed, one is held.
+/// The cells of a column as values: where they have no bytes, and so a batch may claim any number of them, one is
+/// stored.
 fn read_values(alloc: Global, column: &Column) -> Result<ValueRuns, AllocError>
     ensures cells { IfOk result (λ vs. vs ≡ column.now.cells) }
     ensures typed { IfOk result (λ vs. All (Holds column.now.layouts) vs) }
@@ -57,7 +58,7 @@ fn read_values(alloc: Global, column: &Column) -> Result<ValueRuns, AllocError>
     Ok(ValueRuns::each(read_cells(alloc, column)?))
 }
 
-/// Places and validates the one column of a dictionary batch whose values have this type.
+/// Finds the buffers of and validates the one column of a dictionary batch whose values have this type.
 fn check_values(
     alloc: Global,
     stored: &ColType,

@@ -37,7 +37,8 @@ fn check_column(body: &Rc<Vec<u8>>, array: Array) -> Result<Column, StreamFault>
     Column::check(body.clone()?, array)
 }
 
-/// Places and validates the columns of a batch, each by itself: `BufferShort` to `DecimalRange`.
+/// Finds the buffers of the columns of a batch and validates them, each column by itself: `BufferShort` to
+/// `DecimalRange`.
 #[tactic(auto, using(crate::proofs::GatherLemmas::columns))]
 fn check_columns(
     alloc: Global,
@@ -64,7 +65,7 @@ fn check_columns(
     Ok(columns)
 }
 
-/// Places and validates the columns of a record batch, with the dictionaries as they are now.
+/// Finds the buffers of the columns of a record batch and validates them, with the dictionaries as they are now.
 pub(crate) fn take_columns(
     alloc: Global,
     schema: &StreamSchema,

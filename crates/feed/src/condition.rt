@@ -10,7 +10,7 @@ use values::StreamFault;
 pub enum Condition {
     /// It accepts the next bytes of its stream.
     Opened,
-    /// The end mark came.
+    /// The end mark was read.
     Ended,
     /// The caller marked the end of the input.
     Finished,

@@ -31,8 +31,8 @@ use values::{Schema, StreamFault};
 
 /// A stream that is pushed in pieces.
 ///
-/// It keeps the stream's schema and dictionaries, and the bytes of an incomplete message. `prepare` checks a piece and
-/// makes the room that its change needs, and `commit` makes the change; `push` is the two in turn.
+/// It retains the stream's schema and dictionaries, and the bytes of an incomplete message. `prepare` checks a piece
+/// and reserves the memory that its change needs, and `commit` makes the change; `push` does both in turn.
 #[derive(Drop)]
 pub struct Feed {
     alloc: Global,
@@ -80,7 +80,7 @@ fn validate_end(condition: Condition, framer: &Framer) -> Result<(), StreamFault
 }
 
 impl Feed {
-    /// Opens a feed to which nothing has come. Where a schema is declared the stream's must have the same logical
+    /// Opens a feed that has consumed nothing. Where a schema is declared the stream's must have the same logical
     /// columns, and is otherwise refused as `SchemaMismatch`.
     pub fn open(alloc: Global, declared: Option<Schema>) -> Feed
         ensures shown { Shows result (fresh (option_map (λ s. s.fields.items) declared)) }
@@ -106,7 +106,7 @@ impl Feed {
         self.condition.is_broken()
     }
 
-    /// The schema of the stream, once it has come.
+    /// The schema of the stream, once it was read.
     pub fn schema(&self) -> Option<&Rc<StreamSchema>>
         ensures fields { IfSome result (λ s. AreFields s.now.value.fields.items) }
         ensures shown { ShowsSchema self.now (option_map (λ c. c.now.value.fields.items) result) }
@@ -190,7 +190,7 @@ impl Feed {
         })
     }
 
-    /// Checks a piece and makes the room that its change needs. It returns what `push` would return, and changes
+    /// Checks a piece and reserves the memory that its change needs. It returns what `push` would return, and changes
     /// nothing that a caller sees, but that a fault breaks the feed. `commit` then makes the change; another `prepare`,
     /// a `push` or `finish` drops it. After an error nothing is prepared.
     pub fn prepare(&mut self, piece: &[u8]) -> Result<Fed, StreamFault>

@@ -16,9 +16,9 @@ ghost use Rattle.feed.specs.StoryLaw.{
 
 use messages::first_message_law;
 
-/// However a stream is cut into pieces, a feed gives the same events, and the same faults stand: a piece without an
-/// event may be joined with the next, and more bytes change neither a complete message nor the faults that stand. A
-/// complete message uses at least one byte of its piece.
+/// However a stream is cut into pieces, a feed gives the same events and has the same faults: a piece without an event
+/// may be joined with the next, and more bytes change neither a complete message nor the faults. A complete message
+/// uses at least one byte of its piece.
 pub fn cut_law()
     ensures partial { PartialJoins }
     ensures whole { WholeStays }
@@ -44,13 +44,13 @@ pub fn pieces_law()
     first_message_law();
 }
 
-/// What a feed keeps of its bytes is what the messages leave that the framer returns of them.
+/// What a feed retains of its bytes follows from the messages that the framer returns for them.
 pub fn retained_law()
     ensures { RetainedByMessages }
 {}
 
-/// The events of a feed make the reading of the whole stream: event by event, that of the bytes that are left is the
-/// event and then the reading of the rest; and by `events`, the reading of a stream is that of all its events.
+/// The reading of the whole stream follows from the events of a feed: event by event, that of the remaining bytes is
+/// the event and then the reading of the rest; and by `events`, the reading of a stream is that of all its events.
 pub fn story_law()
     ensures all { AllIsReported }
     ensures event { EventReports }

@@ -1,9 +1,9 @@
-//! One stream, from pieces to events: messages are framed, their bodies are checked, and dictionaries are kept.
+//! One stream, from pieces to events: messages are framed, their bodies are checked, and dictionaries are stored.
 //!
-//! A feed is a function of the bytes that it consumed. `specs/Retained.antt` says what they leave, `specs/Events.antt`
-//! what a piece gives then, `specs/States.antt` what each call may answer and where it leads, and `specs/Shown.antt`
-//! which states a feed in memory shows. `specs/Transcript.antt` is what a whole stream gives, event by event, however
-//! it is cut (`specs/Pieces.antt`).
+//! A feed is a function of the bytes that it consumed. `specs/Retained.antt` says what is retained of them,
+//! `specs/Events.antt` what a piece gives then, `specs/States.antt` what each call may answer and to which state it
+//! leads, and `specs/Shown.antt` which states a feed in memory represents. `specs/Transcript.antt` is what a whole
+//! stream gives, event by event, however it is cut (`specs/Pieces.antt`).
 #![tactic(auto)]
 
 mod cells;

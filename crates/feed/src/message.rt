@@ -82,8 +82,8 @@ fn take_dictionary(
     })
 }
 
-/// Reads a record batch. Before that its rows are counted as slots of each dictionary, but no more of them than its body
-/// has bytes.
+/// Reads a record batch. Before that its rows are counted as slots of each dictionary, but no more of them than its
+/// body has bytes.
 fn take_batch(
     alloc: Global,
     schema: &StreamSchema,
@@ -152,7 +152,7 @@ fn take_parts(
     }
 }
 
-/// Reads a complete message and prepares its effect. The framer takes its header back.
+/// Reads a complete message and prepares its effect. Its header is returned to the framer for reuse.
 pub(crate) fn take_message(
     alloc: Global,
     framer: &mut Framer,

@@ -44,7 +44,7 @@ pub(crate) fn validate(
     ensures next { IfOk result (λ j. IfSome j.coming IsFollowed) }
     ensures typed { IfOk result (IsTypedComing framer.new.prepared.known.schema) }
 {
-    // They do nothing: the proof takes from them what a message is, and what is kept of some bytes.
+    // They do nothing: the proof takes from them what a message is, and what is retained of some bytes.
     first_message_law();
     batches_law();
     place_law();

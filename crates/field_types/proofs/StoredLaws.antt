@@ -1,4 +1,4 @@
--- The laws of the types that are taken.
+-- The laws of the types that are supported.
 
 use Rattle.field_types.proofs.Children.{children-fit}
 

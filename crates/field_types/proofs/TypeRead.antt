@@ -71,7 +71,7 @@ use Rattle.field_types.specs.TypeTree.{
 }
 use Rattle.field_types.specs.TypeLaw.{TypeIsRead}
 
--- numbers that a slot holds
+-- numbers that fit a slot
 
 short-read : (n : ℕ) (t : Table) (k : ℕ) (d : ℤ) → n < 2 ^ 15 → NodeHeld t.bytes (slot_of t k) (number 2 n)
     → short_of t k d ≡ Ok (pos n)

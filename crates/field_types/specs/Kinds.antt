@@ -1,4 +1,4 @@
--- Apache Arrow Schema.fbs, union Type: the kinds of types that are taken, by their numbers in the union. Under any
+-- Apache Arrow Schema.fbs, union Type: the kinds of types that are supported, by their numbers in the union. Under any
 -- other nothing is read.
 use Rattle.std.specs.Prelude.{ℕ, Bool, true, Ok, Err, ◌==◌, if◌then◌else◌}
 use Rattle.flatbuf.specs.Layout.{Table}

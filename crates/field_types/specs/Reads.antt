@@ -1,4 +1,4 @@
--- What is read of any table of Schema.fbs: its numbers and truth values, with their defaults.
+-- What is read from any table of Schema.fbs: its numbers and truth values, with their defaults.
 use Rattle.std.specs.Prelude.{ℕ, ℤ, pos, Bool, true, false, not, Option, Ok, Err, unwrap_or, ◌==◌}
 use Rattle.std.specs.Int.{w16, w32, w64}
 use Rattle.flatbuf.specs.Layout.{Table, number_of, signed_of}
@@ -6,7 +6,7 @@ use Rattle.values.specs.Reading.{Reading, mapped, must, one}
 use Rattle.values.specs.declared.faults.StreamFault.{StreamFault}
 use Rattle.values.specs.declared.faults.StreamFault.TheVariants as fault
 
--- what lies where it can't be read is the fault BadTable
+-- what can't be read is the fault BadTable
 abbrev pub readable : {X : Type 0} → Option X → Reading X
 readable m = must fault.BadTable m
 

@@ -1,4 +1,4 @@
--- What holds of the types that are taken.
+-- What holds of the types that are supported.
 use Rattle.std.specs.Prelude.{◌≡◌, ◌↔◌, ℕ, suc, true, Ok}
 use Rattle.flatbuf.specs.Layout.{Table}
 use Rattle.values.specs.Rose.{Roses, none, more}

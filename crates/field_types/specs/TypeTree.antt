@@ -1,5 +1,5 @@
 -- Apache Arrow Schema.fbs, union Type and its tables, as they are written: each slot of a type's table, also where it
--- holds the default. A time zone stands only where there is one.
+-- holds the default. There is a time zone only where the type has one.
 use Rattle.std.specs.Prelude.{ℕ, ◌*◌, Bool, true, false, List, [], ◌∷◌}
 use Rattle.flatbuf.specs.Tree.{Node, absent, number, text, Nodes, no_nodes, nodes_of}
 use Rattle.values.specs.Layouts.{bytes_in}

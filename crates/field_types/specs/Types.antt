@@ -67,7 +67,7 @@ index_type width signed = record { width = width; signed = signed }
 unfoldable pub index_of : Table → Reading IndexType
 index_of t = both index_type (width_of t) (bool_of t fbs.is_signed)
 
--- table Decimal: 1 to 38 digits, none or some or all of them after the point. Only decimals of 128 bits are taken.
+-- table Decimal: 1 to 38 digits, none or some or all of them after the point. Only decimals of 128 bits are supported.
 unfoldable pub precision_of : Table → Reading ℕ
 precision_of t = i32_of t fbs.precision (pos 0) >>= ranged (pos 1) (pos max_precision)
 
@@ -83,7 +83,7 @@ wide_of t = i32_of t fbs.decimal_bits (pos 128) >>= λ bits. needs fault.Unsuppo
 unfoldable pub decimal_of : Table → Reading ColType
 decimal_of t = both first (digits_of t) (wide_of t)
 
--- table Date, enum DateUnit: milliseconds where no unit is said
+-- table Date, enum DateUnit: milliseconds where no unit is given
 abbrev pub date_unit_numbered : ℤ → Reading DateUnit
 date_unit_numbered n =
     if int_eq n (pos 0) then Ok date.Day else if int_eq n (pos 1) then Ok date.Millisecond else Err (one fault.BadType)
@@ -104,14 +104,14 @@ time_unit_numbered n =
 unfoldable pub time_unit_of : Table → ℤ → Reading TimeUnit
 time_unit_of t d = short_of t fbs.unit d >>= time_unit_numbered
 
--- table Time: milliseconds of 32 bits where nothing else is said
+-- table Time: milliseconds of 32 bits where nothing else is given
 abbrev pub time_type : TimeUnit → ℤ → Reading ColType
 time_type unit bits = checked fault.BadType (int_eq bits (pos (bits_of_time unit))) (stored.Time unit)
 
 unfoldable pub time_of : Table → Reading ColType
 time_of t = both time_type (time_unit_of t (pos 1)) (i32_of t fbs.time_bits (pos 32)) >>= λ taken. taken
 
--- table Timestamp: seconds where no unit is said. A time zone is UTF-8 of at most 4,096 bytes; an absent one is empty.
+-- table Timestamp: seconds where no unit is given. A time zone is UTF-8 of at most 4,096 bytes; an absent one is empty.
 abbrev pub checked_zone : List ℕ → Reading (List ℕ)
 checked_zone bytes = checked fault.BadType (nat_le (length bytes) max_name_len && is_utf8 bytes) bytes
 
@@ -128,7 +128,7 @@ timestamp_type unit zone = stored.Timestamp unit zone
 unfoldable pub timestamp_of : Table → Reading ColType
 timestamp_of t = both timestamp_type (time_unit_of t (pos 0)) (zone_of t)
 
--- table Duration: milliseconds where no unit is said
+-- table Duration: milliseconds where no unit is given
 abbrev pub duration_type : TimeUnit → ColType
 duration_type unit = stored.Duration unit
 

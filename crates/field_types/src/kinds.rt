@@ -52,7 +52,7 @@ impl TypeKind {
     }
 }
 
-/// Reads the kind of a field's type. A kind that is not taken is `UnsupportedType`, an unreadable one `BadTable`.
+/// Reads the kind of a field's type. A kind that is not supported is `UnsupportedType`, an unreadable one `BadTable`.
 #[tactic(auto, unfolding(crate::specs::Kinds::kind_of, crate::specs::Kinds::kind_numbered))]
 pub fn read_kind(field: &TableRef) -> Result<TypeKind, StreamFault>
     ensures { Yields (λ k. k) result (kind_of field.now) }

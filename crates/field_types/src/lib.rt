@@ -1,7 +1,7 @@
 //! The types of fields, read from the tables of Schema.fbs and written to them.
 //!
-//! `specs/Types.antt` says what a field's type means and which faults stand in it, `specs/Kinds.antt` of which kind it
-//! is, and `specs/TypeTree.antt` what is written for each. The types themselves are `values::ColType`.
+//! `specs/Types.antt` says what a field's type means and which faults it has, `specs/Kinds.antt` of which kind it is,
+//! and `specs/TypeTree.antt` what is written for each. The types themselves are `values::ColType`.
 #![tactic(auto)]
 
 mod index;

@@ -7,7 +7,7 @@ ghost use Rattle.field_types.specs.Reads.{bool_of, byte_of, long_of, short_of, i
 use flatbuf::{BadTable, TableRef};
 use values::StreamFault;
 
-/// What was read of a table, with `BadTable` as a fault of the stream.
+/// What was read from a table, with `BadTable` as a fault of the stream.
 pub fn readable<T: Drop>(found: Result<T, BadTable>) -> Result<T, StreamFault>
     ensures { Yields (λ x. x) result (must StreamFault.BadTable (result_ok found)) }
 {
@@ -17,7 +17,7 @@ pub fn readable<T: Drop>(found: Result<T, BadTable>) -> Result<T, StreamFault>
     }
 }
 
-/// The bool in a slot, `false` where it is absent; a place that isn't readable is `BadTable`, here and below.
+/// The bool in a slot, `false` where it is absent; a slot that isn't readable is `BadTable`, here and below.
 #[tactic(auto, unfolding(crate::specs::Reads::bool_of))]
 pub fn read_bool(table: &TableRef, slot: u16) -> Result<bool, StreamFault>
     ensures { Yields (λ b. b) result (bool_of table.now slot) }

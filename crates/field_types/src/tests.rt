@@ -8,8 +8,8 @@ use values::{ColType, DateUnit, IntWidth, OffsetWidth, StreamFault, TimeUnit, Zo
 
 const WITH_CHILDREN: [u8; 3] = [12, 13, 21];
 
-/// The root table, a field of this kind, whose type table has slots at these places, and stands at 40 with three
-/// numbers of 32 bits after its start. The second may lead to the third, the count of a text.
+/// The root table, a field of this kind, whose type table has slots at these offsets, and lies at 40 with three numbers
+/// of 32 bits after its start. The second may point to the third, the count of a text.
 fn field(kind: u8, slots: [u8; 3], words: [[u8; 2]; 3]) -> [u8; 60] {
     let [[a, b], [c, d], [e, f]] = words;
     let [first, second, third] = slots;

@@ -1,4 +1,4 @@
--- Ends lie after beginnings, and the tree of slots by its first.
+-- Ends come after beginnings, and the tree of slots by its first.
 use Rattle.std.proofs.Common.{◌≡◌, ℕ, ◌+◌, ◌*◌, ◌/◌, ◌%◌, ◌-◌, ◌<◌, ◌≤◌, List, length, get_or, drop, refl, arith}
 use Rattle.std.proofs.Math.Nat.{div-add-mod', mod-lt}
 use Rattle.flatbuf.specs.Tree.{Node, absent, number, text, structs, table, references, Nodes, node, no_nodes}

@@ -1,4 +1,4 @@
--- What stands at a place is what is read there.
+-- What lies at a position is what is read there.
 use Rattle.std.proofs.Common.{
   ◌≡◌,
   ℕ,
@@ -30,7 +30,7 @@ use Rattle.byteorder.specs.Endian.{little_bytes}
 use Rattle.byteorder.specs.Numbers.{little_number-reads_back, length-bytes_low_first}
 use Rattle.flatbuf.specs.Layout.{number_at, target_at, bytes_at, block_at}
 
--- these bytes stand at place p
+-- these bytes lie at position p
 pub record At (b : List ℕ) (p : ℕ) (xs : List ℕ) : Type 0 where
   pub rest : List ℕ
   pub is : drop p b ≡ xs ++ rest
@@ -70,7 +70,7 @@ pub bytes-at : (b : List ℕ) (p : ℕ) (xs : List ℕ) → At b p xs → bytes_
 unfolding bytes_at
 bytes-at b p xs a = rw (le-leb (p + length xs) (length b) a.room, a.is, take_at xs a.rest (length xs) refl) refl
 
--- a distance leads to its target
+-- an offset points to its target
 pub target-at : (b : List ℕ) (q p : ℕ) → q ≤ p → p < 2 ^ 32 → At b q (little_bytes 4 (p - q)) → target_at b q ≡ Some p
 unfolding target_at
 target-at b q p le short a =

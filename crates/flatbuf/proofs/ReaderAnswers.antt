@@ -39,7 +39,7 @@ pub structs-read : (w : ℕ) (xs : List ℕ) (t : Table) (k : ℕ) → NodeHeld 
 unfolding structs_of
 structs-read w xs t k h = rw (h.2, h.3, h.4) refl
 
--- a table that a slot or an element leads to
+-- a table to which a slot or an element points
 pub record TableRead (b : List ℕ) (answer : Option (Option Table)) (s : Nodes) : Type 0 where
   pub place : ℕ
   pub is : answer ≡ Some (Some (table_in b place))

@@ -86,7 +86,7 @@ reference-content q at (structs w xs) h = refl
 reference-content q at (table s) h = refl
 reference-content q at (references s) h = refl
 
--- a count, and what stands after it
+-- a count, and what comes after it
 pub record IsCounted (b : List ℕ) (at n : ℕ) (xs : List ℕ) : Type 0 where
   pub count : At b (up_count at) (little_bytes 4 n)
   pub items : At b (up_count at + 4) xs

@@ -1,5 +1,5 @@
--- The metadata of a stream with two int64 columns `k` and `v`, as producers of Arrow streams know it:
--- what the layout gives is compared with the bytes by computation.
+-- The metadata of a stream with two int64 columns `k` and `v`, as producers of Arrow streams write it: what the layout
+-- gives is compared with the bytes by computation.
 use Rattle.std.specs.Prelude.{◌≡◌, ℕ, List, [], ◌∷◌, refl}
 use Rattle.flatbuf.specs.Tree.{Node, absent, number, text, structs, table, references, no_nodes, nodes_of}
 use Rattle.flatbuf.specs.Written.{whole}

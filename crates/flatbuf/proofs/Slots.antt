@@ -1,4 +1,4 @@
--- The vtable of a written table leads to its fields.
+-- The vtable of a written table points to its fields.
 use Rattle.std.proofs.Common.{
   ◌≡◌,
   ℕ,
@@ -46,7 +46,7 @@ use Rattle.flatbuf.proofs.Ends.{up-le, field_end-le, fields_end-le}
 use Rattle.flatbuf.proofs.Lengths.{length-zeros, entries-length}
 use Rattle.flatbuf.proofs.Places.{At, At-front, At-back, number-at}
 
--- what a slot answers for a node whose field stands at place q
+-- what a slot gives for a node whose field lies at position q
 abbrev pub slot_answer : ℕ → Node → Option (Option ℕ)
 slot_answer q absent = Some None
 slot_answer q (number w n) = Some (Some q)
@@ -55,7 +55,7 @@ slot_answer q (structs w xs) = Some (Some q)
 slot_answer q (table s) = Some (Some q)
 slot_answer q (references s) = Some (Some q)
 
--- the slots from number k on lead to the fields from c on of the table at t
+-- the slots from number k on point to the fields from c on of the table at t
 abbrev pub Placed : (ℕ → Option (Option ℕ)) → ℕ → ℕ → ℕ → Nodes → Type 0
 Placed place t c k no_nodes = ⊤
 Placed place t c k (node x r) =
@@ -140,7 +140,7 @@ slots-placed b p v n c k (node x r) e f low within short a =
           moved,
     )
 
--- what the bytes of a table say of it
+-- what the bytes of a table give of it
 pub record IsTable (b : List ℕ) (at : ℕ) (s : Nodes) : Type 0 where
   pub found : table_at b (table_place at s) ≡ Some (table_in b (table_place at s))
   pub slots : Placed (slot_of (table_in b (table_place at s))) (table_place at s) 4 0 s

@@ -1,4 +1,4 @@
--- The tree of `specs/Tree` that the slots of a `Builder` stand for.
+-- The tree of `specs/Tree` for the slots of a `Builder`.
 use Rattle.std.specs.Prelude.{List, map}
 use Rattle.flatbuf.specs.Tree.{Node, absent, number, text, structs, table, references, Nodes, nodes_of}
 use Rattle.flatbuf.specs.declared.slot.Slot.{Slot}

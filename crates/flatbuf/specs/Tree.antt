@@ -1,4 +1,4 @@
--- A message as a tree of objects: what a FlatBuffers table says, without any place.
+-- A message as a tree of objects: the content of a FlatBuffers table, without any position.
 use Rattle.std.specs.Prelude.{ℕ, ◌+◌, List, [], ◌∷◌}
 
 mutual

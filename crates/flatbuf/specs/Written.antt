@@ -1,11 +1,10 @@
--- The one layout of a tree: where each object stands, and the bytes.
+-- The one layout of a tree: where each object lies, and the bytes.
 --
--- Objects stand in preorder: an object, then those that its slots (or elements) refer to, each with
--- all its own before the next. A table's vtable starts at the next multiple of 8, the table at the
--- next multiple of 8 after it; a field stands at the next multiple of its width from the table's
--- start; the count of a vector or string stands at the next place that is 4 modulo 8. All fill is
--- zero. `at` is the place from which an object has room, counted from the start of the bytes.
--- docs/ARCHITECTURE.md has a picture of it.
+-- Objects are in preorder: an object, then those that its slots (or elements) refer to, each with all its own before
+-- the next. A table's vtable begins at the next multiple of 8, the table at the next multiple of 8 after it; a field at
+-- the next multiple of its width from the table's start; the count of a vector or string at the next position that is 4
+-- modulo 8. All padding is zero. `at` is the position from which on an object is laid out, counted from the start of
+-- the bytes. docs/ARCHITECTURE.md has a picture of it.
 use Rattle.std.specs.Prelude.{◌≡◌, ℕ, ◌+◌, ◌*◌, ◌-◌, ◌/◌, ◌%◌, ◌^◌, ◌<◌, ◌≤◌, List, [], ◌∷◌, ◌++◌, length, replicate, ⊤}
 use Rattle.byteorder.specs.Endian.{little_bytes}
 use Rattle.flatbuf.specs.Tree.{Node, absent, number, text, structs, table, references, Nodes, no_nodes, node, count}
@@ -17,7 +16,7 @@ zeros n = replicate n 0
 abbrev pub up : ℕ → ℕ → ℕ
 up w n = (n + (w - 1)) / w * w
 
--- the next place that is 4 modulo 8
+-- the next position that is 4 modulo 8
 abbrev pub up_count : ℕ → ℕ
 up_count n = (n + 3) / 8 * 8 + 4
 
@@ -50,7 +49,7 @@ abbrev pub fields_end : ℕ → Nodes → ℕ
 fields_end c no_nodes = up 4 c
 fields_end c (node x r) = fields_end (field_end c x) r
 
--- Places of objects.
+-- Positions of objects.
 
 abbrev pub vtable_len : Nodes → ℕ
 vtable_len s = 4 + 2 * count s
@@ -68,7 +67,7 @@ items_place at = up_count at + 4
 abbrev pub items_end : ℕ → Nodes → ℕ
 items_end at s = items_place at + 4 * count s
 
--- what a reference to the object leads to
+-- the position to which a reference to the object points
 abbrev pub object_place : ℕ → Node → ℕ
 object_place at absent = at
 object_place at (number w n) = at
@@ -92,7 +91,7 @@ abbrev mutual
 
 -- Bytes.
 
--- a field that stands at place p, where its object has room from `at` on
+-- a field at position p, where its object is laid out from `at` on
 abbrev pub content : ℕ → ℕ → Node → List ℕ
 content p at absent = []
 content p at (number w n) = little_bytes w n
@@ -101,13 +100,13 @@ content p at (structs w xs) = little_bytes 4 (object_place at (structs w xs) - p
 content p at (table s) = little_bytes 4 (object_place at (table s) - p)
 content p at (references s) = little_bytes 4 (object_place at (references s) - p)
 
--- the fields from c on of the table at place t
+-- the fields from c on of the table at position t
 abbrev pub fields : ℕ → ℕ → ℕ → Nodes → List ℕ
 fields t c at no_nodes = zeros (up 4 c - c)
 fields t c at (node x r) =
     zeros (field_place c x - c) ++ (content (t + field_place c x) at x ++ fields t (field_end c x) (object_end at x) r)
 
--- what the vtable says of a slot
+-- the vtable's entry for a slot
 abbrev pub entry : ℕ → Node → ℕ
 entry c absent = 0
 entry c (number w n) = field_place c (number w n)
@@ -127,12 +126,12 @@ table_bytes at s =
     ++ (zeros (table_place at s - (up 8 at + vtable_len s)) ++ (little_bytes 4 (table_place at s - up 8 at)
     ++ fields (table_place at s) 4 (table_end at s) s)))))
 
--- the elements of a vector of references, the first at place p
+-- the elements of a vector of references, the first at position p
 abbrev pub elements : ℕ → ℕ → Nodes → List ℕ
 elements p at no_nodes = []
 elements p at (node x r) = little_bytes 4 (object_place at x - p) ++ elements (p + 4) (object_end at x) r
 
--- the fill before a vector or string, and its count
+-- the padding before a vector or string, and its count
 abbrev pub counted : ℕ → ℕ → List ℕ
 counted at n = zeros (up_count at - at) ++ little_bytes 4 n
 
@@ -150,7 +149,7 @@ abbrev mutual
   objects at no_nodes = []
   objects at (node x r) = object at x ++ objects (object_end at x) r
 
--- the whole: the distance to the root table, the objects, zeros up to a multiple of 8
+-- the whole: the offset to the root table, the objects, zeros up to a multiple of 8
 abbrev pub whole : Nodes → List ℕ
 whole s =
     little_bytes 4 (table_place 4 s) ++ (object 4 (table s)
@@ -184,7 +183,7 @@ abbrev mutual
   IsReference (table s) = ⊤
   IsReference (references s) = ⊤
 
--- the tree can be written, with places of 32 bits
+-- the tree can be written, with positions of 32 bits
 pub record IsWritable (s : Nodes) : Type 0 where
   pub fits : Fits (table s)
   pub short : object_end 4 (table s) < 2 ^ 32

@@ -31,7 +31,7 @@ use crate::slot::Slot;
 use byteorder::{ByteOrder, LittleEndian};
 use std::alloc::{AllocError, Global};
 
-/// Appends `count` zeros, the fill before an aligned place.
+/// Appends `count` zeros, the padding before an aligned position.
 fn push_zeros(out: &mut Vec<u8>, count: u64) -> Result<(), AllocError>
     requires { count ≤ 8 }
     ensures { OnOk result (out.new.items ≡ out.old.items ++ zeros count) }
@@ -51,7 +51,7 @@ fn push_number(out: &mut Vec<u8>, number: u64, width: usize) -> Result<(), Alloc
     out.extend_from_slice(&bytes[..width])
 }
 
-/// The vtable's entry for a slot: where its field stands, counted from the table, or 0 where the slot is absent.
+/// The vtable's entry for a slot: where its field lies, counted from the table, or 0 where the slot is absent.
 fn entry_of(cursor: u64, slot: &Slot) -> u64
     requires fits { Fits (view slot.now) }
     requires room { cursor < 2 ^ 32 }
@@ -67,7 +67,7 @@ fn entry_of(cursor: u64, slot: &Slot) -> u64
     }
 }
 
-/// Appends a field that stands at `place`: a number itself, or the distance to the object, which has room from `at` on.
+/// Appends a field at position `place`: a number itself, or the offset to the object, which is laid out from `at` on.
 #[tactic(auto, using(crate::proofs::Ends::ends, crate::proofs::Views::slots))]
 fn push_content(out: &mut Vec<u8>, place: u64, at: u64, slot: &Slot) -> Result<(), AllocError>
     requires fits { Fits (view slot.now) }
@@ -85,8 +85,7 @@ fn push_content(out: &mut Vec<u8>, place: u64, at: u64, slot: &Slot) -> Result<(
     }
 }
 
-/// Appends the fields of the table at `table`, the first after `cursor`, whose objects have room
-/// from `at` on.
+/// Appends the fields of the table at `table`, the first after `cursor`, whose objects are laid out from `at` on.
 #[tactic(auto, using(crate::proofs::Ends::ends, crate::proofs::Views::slots))]
 fn push_fields(
     out: &mut Vec<u8>,
@@ -127,8 +126,8 @@ fn push_entries(out: &mut Vec<u8>, cursor: u64, slots: &[Slot]) -> Result<(), Al
     Ok(())
 }
 
-/// Appends the distances of a vector of references, the first at `place`, whose objects have room
-/// from `at` on.
+/// Appends the offsets of a vector of references, the first at position `place`, whose objects are laid out from `at`
+/// on.
 #[tactic(auto, using(crate::proofs::Ends::ends, crate::proofs::Views::slots))]
 fn push_elements(out: &mut Vec<u8>, place: u64, at: u64, slots: &[Slot]) -> Result<(), AllocError>
     requires fits { FitAll (views slots.now) }
@@ -146,7 +145,7 @@ fn push_elements(out: &mut Vec<u8>, place: u64, at: u64, slots: &[Slot]) -> Resu
     Ok(())
 }
 
-/// Appends the fill before a vector or string, and its count.
+/// Appends the padding before a vector or string, and its count.
 fn push_count(out: &mut Vec<u8>, at: u64, count: u64) -> Result<(), AllocError>
     requires { (at < 2 ^ 32) × (count < 2 ^ 32) }
     ensures { OnOk result (out.new.items ≡ out.old.items ++ counted at count) }
@@ -202,7 +201,7 @@ fn push_object(out: &mut Vec<u8>, at: u64, slot: &Slot) -> Result<(), AllocError
     }
 }
 
-/// Appends the objects of `slots`, the first of which has room from `at` on.
+/// Appends the objects of `slots`, the first of which is laid out from `at` on.
 #[cycle(objects)]
 #[tactic(auto, using(crate::proofs::Ends::ends, crate::proofs::Views::slots))]
 fn push_objects(out: &mut Vec<u8>, at: u64, slots: &[Slot]) -> Result<(), AllocError>
@@ -238,7 +237,7 @@ fn push_structs(out: &mut Vec<u8>, at: u64, width: usize, bytes: &[u8]) -> Resul
     Ok(())
 }
 
-/// Appends the count and the distances of a vector of references, without its objects.
+/// Appends the count and the offsets of a vector of references, without its objects.
 #[tactic(auto, using(crate::proofs::Ends::ends, crate::proofs::Views::slots))]
 fn push_references(out: &mut Vec<u8>, at: u64, slots: &[Slot]) -> Result<(), AllocError>
     requires fits { FitAll (views slots.now) }

@@ -1,8 +1,8 @@
 //! Laws of the definitions, each the contract of a function that does nothing.
 ghost use Rattle.flatbuf.specs.Law.{LayoutLaw};
 
-/// Each tree within the limits is read back from the bytes that are written for it: from the root table
-/// down, each slot and each element answers what the tree says, and each slot beyond it is absent.
+/// Each tree within the limits is read back from the bytes that are written for it: from the root table down, each slot
+/// and each element is read as what the tree has, and each slot beyond it is absent.
 pub fn layout_law()
     ensures { LayoutLaw }
 {}

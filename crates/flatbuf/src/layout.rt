@@ -1,4 +1,4 @@
-//! Computes the place and size of each object of the canonical layout.
+//! Computes the position and size of each object of the canonical layout.
 
 ghost use Rattle.std.specs.Prelude.{◌≡◌, ◌+◌, ◌-◌, ◌*◌, ◌^◌, ◌<◌, ◌≤◌};
 ghost use Rattle.flatbuf.specs.Tree.{count, table};
@@ -35,7 +35,7 @@ pub fn up_to(place: u64, width: u64) -> u64
     (place + (width - 1)) / width * width
 }
 
-/// The next place that is 4 modulo 8, where the count of a vector stands.
+/// The next position that is 4 modulo 8, where the count of a vector lies.
 pub fn up_to_count(place: u64) -> u64
     requires { place < 2 ^ 40 }
     ensures value { result ≡ up_count place }
@@ -75,7 +75,7 @@ fn size_of_field(slot: &Slot) -> u64
     }
 }
 
-/// The place of a field in its table, where `cursor` is the end of the one before.
+/// The position of a field in its table, where `cursor` is the end of the one before.
 pub fn place_of_field(cursor: u64, slot: &Slot) -> u64
     requires fits { Fits (view slot.now) }
     requires room { cursor < 2 ^ 33 }
@@ -120,7 +120,7 @@ pub fn len_of_vtable(slots: &[Slot]) -> u64
     4 + 2 * slots.len() as u64
 }
 
-/// The place of a table whose vtable has room from `at` on.
+/// The position of a table whose vtable is laid out from `at` on.
 pub fn place_of_table(at: u64, slots: &[Slot]) -> u64
     requires size { vtable_len (views slots.now) < 2 ^ 16 }
     requires room { at < 2 ^ 32 }
@@ -131,7 +131,7 @@ pub fn place_of_table(at: u64, slots: &[Slot]) -> u64
     up_to(up_to(at, 8) + len_of_vtable(slots), 8)
 }
 
-/// The end of a table whose vtable has room from `at` on, without the objects that it refers to.
+/// The end of a table whose vtable is laid out from `at` on, without the objects that it refers to.
 pub fn end_of_table(at: u64, slots: &[Slot]) -> u64
     requires fits { Fits (table (views slots.now)) }
     requires room { at < 2 ^ 32 }
@@ -142,7 +142,7 @@ pub fn end_of_table(at: u64, slots: &[Slot]) -> u64
     place_of_table(at, slots) + end_of_fields(4, slots)
 }
 
-/// Where the elements of a vector begin whose count has room from `at` on.
+/// Where the elements of a vector begin whose count is laid out from `at` on.
 pub fn place_of_items(at: u64) -> u64
     requires { at < 2 ^ 32 }
     ensures value { result ≡ items_place at }
@@ -153,7 +153,7 @@ pub fn place_of_items(at: u64) -> u64
 }
 
 #[tactic(auto, using(crate::proofs::Views::slots))]
-/// The end of the elements of a vector of references whose count has room from `at` on.
+/// The end of the elements of a vector of references whose count is laid out from `at` on.
 pub fn end_of_items(at: u64, slots: &[Slot]) -> u64
     requires { items_end at (views slots.now) < 2 ^ 32 }
     ensures value { result ≡ items_end at (views slots.now) }
@@ -161,7 +161,7 @@ pub fn end_of_items(at: u64, slots: &[Slot]) -> u64
     place_of_items(at) + 4 * slots.len() as u64
 }
 
-/// The place that a reference to the object of `slot` leads to.
+/// The position to which a reference to the object of `slot` points.
 #[tactic(auto, using(crate::proofs::Views::slots))]
 pub fn place_of_object(at: u64, slot: &Slot) -> u64
     requires fits { Fits (view slot.now) }

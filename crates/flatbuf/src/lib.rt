@@ -1,8 +1,8 @@
 //! FlatBuffers, as far as Arrow's metadata needs them, and exactly.
 //!
-//! Reading (`specs/Layout.antt`) says what the bytes mean from the root table down. A call answers
-//! `BadTable` exactly where a byte that it has to read lies outside the buffer, or where a vtable's
-//! own size is under 4; everywhere else it answers what the layout means. Nothing is copied.
+//! Reading (`specs/Layout.antt`) says what the bytes mean from the root table down. A call returns `BadTable` exactly
+//! where a byte that it has to read lies outside the buffer, or where a vtable's own size is under 4; everywhere else
+//! it returns what the layout means. Nothing is copied.
 //!
 //! Writing (`specs/Tree.antt`, `specs/Written.antt`) has one layout of a tree of objects. `Builder`
 //! builds a table slot by slot, each call one equation on that tree, and writes the layout's bytes.

@@ -1,4 +1,4 @@
-//! Reads little-endian numbers, distances and byte runs at a place of the buffer.
+//! Reads little-endian numbers, offsets and byte ranges at a position of the buffer.
 ghost use Rattle.std.specs.Prelude.{◌≡◌, ◌↔◌, ◌+◌, ◌≤◌, length, IsTrue};
 ghost use Rattle.std.specs.Result.{result_ok};
 ghost use Rattle.std.specs.Option.{option_copied};
@@ -7,7 +7,7 @@ ghost use Rattle.flatbuf.specs.Layout.{block_at, number_at, target_at};
 use crate::bad_table::BadTable;
 use byteorder::{ByteOrder, LittleEndian};
 
-/// Whether the buffer has `len` bytes from `place` on.
+/// Whether the buffer has `len` bytes from position `place` on.
 fn is_readable(bytes: &[u8], place: usize, len: usize) -> bool
     ensures { IsTrue result ↔ (place + len ≤ length bytes.now) }
 {
@@ -47,7 +47,7 @@ pub(crate) fn u64_at(bytes: &[u8], place: usize) -> Result<u64, BadTable>
     Ok(LittleEndian::read_u64(&bytes[place..]))
 }
 
-/// The place that the distance at `place` leads to. It may lie outside the buffer.
+/// The position to which the offset at `place` points. It may lie outside the buffer.
 pub(crate) fn target(bytes: &[u8], place: usize) -> Result<usize, BadTable>
     ensures { result_ok result ≡ target_at bytes.now place }
 {
@@ -55,7 +55,7 @@ pub(crate) fn target(bytes: &[u8], place: usize) -> Result<usize, BadTable>
     Ok(place + distance as usize)
 }
 
-/// The elements of the vector at `place`, each `width` bytes long.
+/// The elements of the vector at position `place`, each `width` bytes long.
 pub(crate) fn block(bytes: &[u8], place: usize, width: usize) -> Result<&[u8], BadTable>
     ensures { option_copied (result_ok result) ≡ block_at width bytes.now place }
 {

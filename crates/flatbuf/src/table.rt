@@ -33,11 +33,10 @@ impl Buf {
     }
 }
 
-/// A table of the buffer. Contracts see the buffer's bytes and the table's place in them.
+/// A table of the buffer. Contracts see the buffer's bytes and the table's position in them.
 ///
-/// Each call reads the field of one slot. `Ok(None)` is a field that is absent: its default is the
-/// caller's matter. The places that are read are the slot in the vtable, the field, and what the
-/// field's distance leads to.
+/// Each call reads the field of one slot. `Ok(None)` is a field that is absent: its default is up to the caller. What
+/// is read is the slot in the vtable, the field, and the object to which the field's offset points.
 #[derive(Drop)]
 pub struct TableRef<'a> {
     bytes: &'a [u8],
@@ -58,7 +57,7 @@ impl<'a> Model for TableRef<'a> {
 }
 
 impl<'a> TableRef<'a> {
-    /// The table at `place`.
+    /// The table at position `place`.
     pub(crate) fn at(bytes: &'a [u8], place: usize) -> Result<TableRef<'a>, BadTable>
         ensures { result_ok result ≡ table_at bytes.now place }
     {
@@ -76,7 +75,7 @@ impl<'a> TableRef<'a> {
         })
     }
 
-    /// The place of the field in `slot`, if it is present.
+    /// The position of the field in `slot`, if it is present.
     fn field(&self, slot: u16) -> Result<Option<usize>, BadTable>
         ensures { result_ok result ≡ slot_of self.now slot }
     {
@@ -145,8 +144,7 @@ impl<'a> TableRef<'a> {
         self.structs(slot, 1)
     }
 
-    /// The bytes of a vector of structs of `width` bytes each: as many times `width` as the vector
-    /// counts.
+    /// The bytes of a vector of structs of `width` bytes each: `width` times the vector's count.
     pub fn structs(&self, slot: u16, width: usize) -> Result<Option<&'a [u8]>, BadTable>
         ensures { option_map option_copied (result_ok result) ≡ structs_of width self.now slot }
     {
@@ -186,7 +184,7 @@ impl<'a> TableRef<'a> {
     }
 }
 
-/// `place` less the signed distance whose bits are `distance`; `None` where that is negative.
+/// `place` less the signed offset whose bits are `distance`; `None` where that is negative.
 fn vtable_place(place: usize, distance: u32) -> Option<usize>
     requires { place < 2 ^ 63 }
     ensures { result ≡ place_of_vtable place distance }

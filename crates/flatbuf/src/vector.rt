@@ -8,8 +8,8 @@ use crate::numbers::{target, u32_at};
 use crate::table::TableRef;
 use std::marker::Model;
 
-/// A vector of tables. Contracts see the buffer's bytes, the place of the first element and the
-/// count. The count is what the buffer says: the elements need not all lie in the buffer.
+/// A vector of tables. Contracts see the buffer's bytes, the position of the first element and the count. The count is
+/// what the buffer says: the elements need not all lie in the buffer.
 #[derive(Drop)]
 pub struct VectorRef<'a> {
     bytes: &'a [u8],
@@ -29,7 +29,7 @@ impl<'a> Model for VectorRef<'a> {
 }
 
 impl<'a> VectorRef<'a> {
-    /// The vector at `place`.
+    /// The vector at position `place`.
     pub(crate) fn at(bytes: &'a [u8], place: usize) -> Result<VectorRef<'a>, BadTable>
         ensures { result_ok result ≡ vector_at bytes.now place }
     {
@@ -41,21 +41,21 @@ impl<'a> VectorRef<'a> {
         })
     }
 
-    /// How many elements the vector counts.
+    /// The count of the vector.
     pub fn len(&self) -> usize
         ensures { result ≡ self.now.count }
     {
         self.count as usize
     }
 
-    /// Whether the vector counts no element.
+    /// Whether the vector's count is 0.
     pub fn is_empty(&self) -> bool
         ensures { result ≡ (self.now.count == 0) }
     {
         self.count == 0
     }
 
-    /// The table that element `index` leads to.
+    /// The table to which element `index` points.
     pub fn table(&self, index: usize) -> Result<TableRef<'a>, BadTable>
         requires { index < self.now.count }
         ensures { result_ok result ≡ entry_of self.now index }

@@ -1,4 +1,4 @@
--- Places of group rows: ordered by the sort keys one after the other, then by the grouping tuple.
+-- Entries of group rows: ordered by the sort keys one after the other, then by the grouping tuple.
 use Rattle.std.specs.Prelude.{List}
 use Rattle.std.specs.Cmp.{IsTotalOrder}
 use Rattle.std.specs.declared.cmp.Ordering.{Ordering}

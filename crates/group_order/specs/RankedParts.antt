@@ -7,11 +7,11 @@ use Rattle.group_order.specs.Ranked.{Ranked}
 use Rattle.group_order.specs.declared.parts.GroupEntryParts.{GroupEntryParts}
 use Rattle.group_order.specs.declared.parts.RankedParts.{RankedParts}
 
--- the place that has these parts
+-- the entry that has these parts
 abbrev pub entry_with : GroupEntryParts → GroupEntry
 entry_with p = (p.sort_keys.items, p.tuple.items)
 
--- what is kept that has these parts
+-- the groups and the order that have these parts
 abbrev pub ranked_with : RankedParts → Ranked
 ranked_with p = record {
   groups = grouped_with p.groups;
@@ -19,7 +19,7 @@ ranked_with p = record {
   entries = map entry_with p.entries.items;
 }
 
--- such as are kept of any rows
+-- those of some rows
 pub record AreRanked (p : RankedParts) : Type 0 where
   pub groups : AreGroups p.groups
   pub ascending : IsStrictlySortedBy group_entry_cmp (map entry_with p.entries.items)

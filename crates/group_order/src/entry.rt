@@ -1,4 +1,4 @@
-//! Places of group rows in an order.
+//! Entries of group rows in an order.
 
 ghost use Rattle.std.specs.Prelude.{◌≡◌, IfOk};
 ghost use Rattle.group_order.specs.RankedParts.{entry_with};
@@ -10,7 +10,7 @@ use std::cmp::Ordering;
 use std::marker::Model;
 use top_rows::SortKeyList;
 
-/// The place of a group row in an order: its sort keys, one for each of the order's columns, and its group's tuple, by
+/// The entry of a group row in an order: its sort keys, one for each of the order's columns, and its group's tuple, by
 /// which ties are broken. Contracts see the pair of both.
 #[derive(Debug, Drop)]
 pub(crate) struct GroupEntry {
@@ -81,7 +81,7 @@ impl Ord for GroupEntry {
 }
 
 impl GroupEntry {
-    /// The place of a tuple's row with these sort keys.
+    /// The entry of a tuple's row with these sort keys.
     pub(crate) fn new(sort_keys: SortKeyList, tuple: Tuple) -> GroupEntry
         ensures { result ≡ (sort_keys, tuple) }
     {

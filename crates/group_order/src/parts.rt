@@ -5,7 +5,7 @@ use group_state::GroupsParts;
 use top_rows::SortKey;
 use values::Key;
 
-/// All that `RankedGroups` keep: the groups, what is shown of them in which order, and the places of the rows shown,
+/// All that `RankedGroups` store: the groups, what is shown of them in which order, and the entries of the rows shown,
 /// ascending.
 #[derive(Debug, Drop)]
 pub struct RankedParts {
@@ -14,7 +14,7 @@ pub struct RankedParts {
     pub entries: Vec<GroupEntryParts>,
 }
 
-/// The place of a group's row: its sort key for each of the order's columns, and the keys of the group's tuple.
+/// The entry of a group's row: its sort key for each of the order's columns, and the keys of the group's tuple.
 #[derive(Debug, Drop)]
 pub struct GroupEntryParts {
     pub sort_keys: Vec<SortKey>,

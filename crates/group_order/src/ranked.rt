@@ -60,7 +60,7 @@ use top_rows::SortKeyList;
 use values::Row;
 use view_lang::{Change, RowView, Upkeep, group_law, passes, passing_rows};
 
-/// Groups of rows, and the places of their rows in an order. Rows that tie are in the order of their tuples.
+/// Groups of rows, and the entries of their rows in an order. Rows that tie are in the order of their tuples.
 #[derive(Debug, Drop)]
 pub struct RankedGroups {
     alloc: Global,
@@ -87,7 +87,7 @@ impl Model for RankedGroups {
 }
 
 impl RankedGroups {
-    /// The groups of no rows, by the columns `by`, of which rows are shown as the ranking says.
+    /// The groups of no rows, by the columns `by`, of which rows are shown by the ranking.
     pub fn new(alloc: Global, by: &[usize], ranking: Ranking) -> Result<RankedGroups, AllocError>
         ensures keys { IfOk result (λ ranked. ranked.groups.keys ≡ by.now) }
         ensures columns { IfOk result
@@ -105,7 +105,7 @@ impl RankedGroups {
         })
     }
 
-    /// Takes them apart. The parts are all that they keep. If memory is refused, they are lost.
+    /// Takes them apart. The parts are all that they store. If memory is refused, they are lost.
     pub fn into_parts(self) -> Result<RankedParts, AllocError>
         ensures value { IfOk result (λ parts. ranked_with parts ≡ self) }
         ensures kept { IfOk result (λ parts. AreRanked parts) }
@@ -128,7 +128,7 @@ impl RankedGroups {
         })
     }
 
-    /// Makes what has these parts.
+    /// Makes the groups that have these parts.
     pub fn from_parts(alloc: Global, parts: RankedParts) -> Result<RankedGroups, AllocError>
         requires { AreRanked parts }
         ensures { IfOk result (λ ranked. ranked ≡ ranked_with parts) }
@@ -176,7 +176,7 @@ impl RankedGroups {
         }
     }
 
-    /// The sort keys of the row that is shown of a tuple's group, if there is one and places are kept.
+    /// The sort keys of the row that is shown of a tuple's group, if there is one and there are entries.
     fn sort_keys_of(&self, tuple: &Tuple) -> Result<Option<SortKeyList>, AllocError>
         ensures { IfOk result (λ keys. named tuple.now keys ≡ option_map
             (entry_by tuple_cmp self.now.ranking.order tuple.now)
@@ -188,7 +188,7 @@ impl RankedGroups {
         }
     }
 
-    /// The place of the row that is shown of a tuple's group, if there is one and places are kept.
+    /// The entry of the row that is shown of a tuple's group, if there is one and there are entries.
     fn entry_of(&self, tuple: &Tuple) -> Result<Option<GroupEntry>, AllocError>
         ensures { IfOk result (λ entry. entry ≡ option_map (entry_by tuple_cmp self.now.ranking.order tuple.now)
             (placed_at self.now.ranking self.now.groups tuple.now)) }
@@ -200,7 +200,7 @@ impl RankedGroups {
         Ok(Some(GroupEntry::new(keys, tuple)))
     }
 
-    /// Puts the place of a tuple's row in for that before, where there are such.
+    /// Replaces the entry of a tuple's row, where there is one before or after.
     fn replace(
         &mut self,
         tuple: Tuple,
@@ -231,7 +231,7 @@ impl RankedGroups {
         }
     }
 
-    /// Takes the place of a tuple's row away, if one is kept.
+    /// Removes the entry of a tuple's row, if there is one.
     fn take_out(&mut self, tuple: &Tuple) -> Result<(), AllocError>
         ensures groups { self.new.groups ≡ self.old.groups }
         ensures ranking { self.new.ranking ≡ self.old.ranking }
@@ -244,7 +244,7 @@ impl RankedGroups {
         Ok(())
     }
 
-    /// Puts the place of a tuple's row in, if one is to be kept.
+    /// Inserts the entry of a tuple's row, if it is to have one.
     fn put_in(&mut self, tuple: &Tuple) -> Result<(), AllocError>
         ensures groups { self.new.groups ≡ self.old.groups }
         ensures ranking { self.new.ranking ≡ self.old.ranking }
@@ -256,7 +256,7 @@ impl RankedGroups {
         Ok(())
     }
 
-    /// Takes the places of these tuples' rows away.
+    /// Removes the entries of these tuples' rows.
     fn take_all(&mut self, tuples: &[Tuple]) -> Result<(), AllocError>
         ensures groups { self.new.groups ≡ self.old.groups }
         ensures ranking { self.new.ranking ≡ self.old.ranking }
@@ -269,7 +269,7 @@ impl RankedGroups {
         Ok(())
     }
 
-    /// Puts the places of these tuples' rows in.
+    /// Inserts the entries of these tuples' rows.
     fn put_all(&mut self, tuples: &[Tuple]) -> Result<(), AllocError>
         ensures groups { self.new.groups ≡ self.old.groups }
         ensures ranking { self.new.ranking ≡ self.old.ranking }
@@ -282,7 +282,7 @@ impl RankedGroups {
     }
 
     /// Applies a change of rows: the order is changed at the tuples that the change touches, and nowhere else. After an
-    /// error what is kept has no meaning.
+    /// error groups and order are meaningless.
     pub fn apply_change(&mut self, change: &Change) -> Result<(), AllocError>
         requires { (rows : NumberedRows)
             × (Keeps self.old (values_of rows) × (Fits rows change.now × IsFew rows change.now)) }
@@ -300,7 +300,7 @@ impl RankedGroups {
         Ok(())
     }
 
-    /// Applies a change of rows, and changes the places of the tuples that it touches.
+    /// Applies a change of rows, and changes the entries of the tuples that it touches.
     fn change_entries(&mut self, change: &Change) -> Result<(), AllocError>
         requires { (rows : NumberedRows)
             × (Keeps self.old (values_of rows) × (Fits rows change.now × IsFew rows change.now)) }
@@ -317,7 +317,7 @@ impl RankedGroups {
         Ok(())
     }
 
-    /// A row comes, under a number that no row has. After an error what is kept has no meaning.
+    /// Inserts a row with a number that no row has. After an error groups and order are meaningless.
     pub fn come<R: RowView>(&mut self, row: &R) -> Result<(), AllocError>
         requires { (rows : NumberedRows) × (Keeps self.old (values_of rows) × (length rows < max_appended_rows)) }
         ensures kept { OnOk result ((rows : NumberedRows) (n : ℕ)
@@ -335,7 +335,7 @@ impl RankedGroups {
         Ok(())
     }
 
-    /// A row comes, and the place of its group is put in for that before.
+    /// Inserts a row, and replaces the entry of its group.
     fn come_to_entry<R: RowView>(&mut self, row: &R) -> Result<(), AllocError>
         requires { (rows : NumberedRows) × (Keeps self.old (values_of rows) × (length rows < max_appended_rows)) }
         ensures kept { OnOk result ((rows : NumberedRows) (n : ℕ)
@@ -354,7 +354,7 @@ impl RankedGroups {
         Ok(())
     }
 
-    /// The row under a number goes. After an error what is kept has no meaning.
+    /// Deletes the row of a number. After an error groups and order are meaningless.
     pub fn go<R: RowView>(&mut self, row: &R) -> Result<(), AllocError>
         requires { (rows : NumberedRows) × (n : ℕ) × (Keeps self.old (values_of rows)
             × (IsStrictlySortedBy nat_cmp (keys_of rows) × (row_at n rows ≡ Some (R.cells row.now)))) }
@@ -373,7 +373,7 @@ impl RankedGroups {
         Ok(())
     }
 
-    /// A row goes, and the place of its group is put in for that before.
+    /// Deletes a row, and replaces the entry of its group.
     fn go_from_entry<R: RowView>(&mut self, row: &R) -> Result<(), AllocError>
         requires { (rows : NumberedRows) × (n : ℕ) × (Keeps self.old (values_of rows)
             × (IsStrictlySortedBy nat_cmp (keys_of rows) × (row_at n rows ≡ Some (R.cells row.now)))) }
@@ -393,7 +393,7 @@ impl RankedGroups {
         Ok(())
     }
 
-    /// The rows of a group come, all at once: they have this tuple. After an error what is kept has no meaning.
+    /// Adds the rows of a group, all at once: they have this tuple. After an error groups and order are meaningless.
     pub fn take_in(&mut self, tuple: &Tuple, group: &Group) -> Result<(), AllocError>
         requires part { CanTakeIn (Keeps self.old) self.old.groups tuple.now group.now }
         ensures kept { OnOk result (TakesIn (Keeps self.old) (Keeps self.new) self.old.groups tuple.now group.now) }
@@ -409,7 +409,7 @@ impl RankedGroups {
         Ok(())
     }
 
-    /// The rows of a group come, and the place of their tuple's group is put in for that before.
+    /// Adds the rows of a group, and replaces the entry of their tuple's group.
     fn take_in_at_entry(&mut self, tuple: &Tuple, group: &Group) -> Result<(), AllocError>
         requires part { CanTakeIn (Keeps self.old) self.old.groups tuple.now group.now }
         ensures kept { OnOk result (TakesIn (Keeps self.old) (Keeps self.new) self.old.groups tuple.now group.now) }
@@ -425,7 +425,7 @@ impl RankedGroups {
         Ok(())
     }
 
-    /// The rows of a group go, all at once: they have this tuple. After an error what is kept has no meaning.
+    /// Removes the rows of a group, all at once: they have this tuple. After an error groups and order are meaningless.
     pub fn give_up(&mut self, tuple: &Tuple, group: &Group) -> Result<(), AllocError>
         requires part { CanGiveUp (Keeps self.old) self.old.groups tuple.now group.now }
         ensures kept { OnOk result (GivesUp (Keeps self.old) (Keeps self.new) self.old.groups tuple.now group.now) }
@@ -441,7 +441,7 @@ impl RankedGroups {
         Ok(())
     }
 
-    /// The rows of a group go, and the place of their tuple's group is put in for that before.
+    /// Removes the rows of a group, and replaces the entry of their tuple's group.
     fn give_up_from_entry(&mut self, tuple: &Tuple, group: &Group) -> Result<(), AllocError>
         requires part { CanGiveUp (Keeps self.old) self.old.groups tuple.now group.now }
         ensures kept { OnOk result (GivesUp (Keeps self.old) (Keeps self.new) self.old.groups tuple.now group.now) }
@@ -457,7 +457,7 @@ impl RankedGroups {
         Ok(())
     }
 
-    /// The columns of which something is kept.
+    /// The columns that the groups accumulate.
     pub fn columns(&self) -> &[AccumulatedColumn]
         ensures { result.now ≡ self.now.groups.columns }
     {
@@ -471,7 +471,7 @@ impl RankedGroups {
         self.groups.tuple_of(row)
     }
 
-    /// The tuples of the first places, at most `most` of them.
+    /// The tuples of the first entries, at most `most` of them.
     fn first_tuples(&self, alloc: Global, most: usize) -> Result<Vec<Tuple>, AllocError>
         ensures ascending { IsStrictlySortedBy group_entry_cmp self.now.entries }
         ensures tuples { IfOk result (λ tuples.
@@ -513,7 +513,7 @@ impl RankedGroups {
         Ok(made)
     }
 
-    /// The rows at the first places, at most `most` of them.
+    /// The rows of the first entries, at most `most` of them.
     fn first_placed(&self, alloc: Global, most: usize) -> Result<Vec<Row>, AllocError>
         requires { has_entries self.now.ranking ≡ true }
         ensures { IfOk result (λ made. WhereRead (Keeps self.now) self.now.groups self.now.ranking.outputs
@@ -545,7 +545,7 @@ impl Upkeep for RankedGroups {
     }
 }
 
-/// Puts the place of a tuple's row in for another.
+/// Replaces the entry of a tuple's row by another.
 fn exchange(
     entries: &mut BTreeSet<GroupEntry>,
     tuple: Tuple,

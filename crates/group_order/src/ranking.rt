@@ -59,7 +59,7 @@ impl Ranking {
         &self.having
     }
 
-    /// Whether places are kept: else all groups are shown, in their own order.
+    /// Whether there are entries: else all groups are shown, in their own order.
     pub(crate) fn has_entries(&self) -> bool
         ensures { result ≡ has_entries self.now }
     {
@@ -67,7 +67,7 @@ impl Ranking {
     }
 }
 
-/// It reads the sort keys of the rows that are shown, where places are kept.
+/// It reads the sort keys of the rows that are shown, where there are entries.
 impl GroupReader for Ranking {
     ghost use Rattle.group_order.specs.Ranked.{keys_read};
 

@@ -1,4 +1,4 @@
--- The aggregates of groups: what groups keep for each, and what it shows of that.
+-- The aggregates of groups: what groups accumulate for each, and what it shows of that.
 use Rattle.std.specs.Prelude.{◌≡◌, ◌==◌, All, Bool, FitsSigned, List, None, Option, Some, false, map, pos, true, ℕ}
 use Rattle.std.specs.BTreeMap.{is_at}
 use Rattle.std.specs.List.{list_any}
@@ -28,7 +28,7 @@ use Rattle.group_state.specs.Seen.{
 use Rattle.group_state.specs.declared.accumulated_columns.AccumulatedColumn.{AccumulatedColumn}
 use mir.Syntax.{w128}
 
--- what groups keep of a column for an output: its number, and the form that the output reads
+-- the column that groups accumulate for an output, in the form that the output reads
 abbrev pub accumulated_for : Aggregate → Option AccumulatedColumn
 accumulated_for (aggregate.Key k) = None
 accumulated_for aggregate.Count = None
@@ -42,7 +42,7 @@ abbrev pub IsThere : List AccumulatedColumn → Option AccumulatedColumn → Typ
 IsThere columns None = Unit {0}
 IsThere columns (Some k) = is_accumulated columns k ≡ true
 
--- What an output counts, sums or compares is kept, in the form that it reads.
+-- What an output counts, sums or compares is accumulated, in the form that it reads.
 abbrev pub IsAccumulated : List AccumulatedColumn → Aggregate → Type 0
 IsAccumulated columns a = IsThere columns (accumulated_for a)
 
@@ -55,7 +55,7 @@ is_number_of (Some j) k = j == k
 abbrev pub reads : Aggregate → ℕ → Bool
 reads a k = is_number_of (column_read a) k
 
--- whether one of these outputs does so
+-- whether one of these outputs does
 abbrev pub is_read : List GroupOutput → ℕ → Bool
 is_read outs k = list_any (λ o. reads o.aggregate k) outs
 
@@ -63,7 +63,7 @@ is_read outs k = list_any (λ o. reads o.aggregate k) outs
 abbrev pub AreReadBy : List GroupOutput → List AccumulatedColumn → Type 0
 AreReadBy outs columns = All (λ k. is_read outs k.column ≡ true) columns
 
--- A sum can be made of these rows where 128 bits hold it.
+-- A sum of these rows fits into 128 bits.
 abbrev pub SumFits : Aggregate → List (List Datum) → Type 0
 SumFits (aggregate.Sum k) rows = FitsSigned w128 (total (values_at k rows))
 SumFits _ rows = Unit {0}

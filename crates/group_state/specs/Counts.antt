@@ -18,7 +18,7 @@ had es k = unwrap_or (lookup (is_at (key_cmp k)) es) 0
 abbrev pub one : Key → Key → ℕ
 one k q = if is_at (key_cmp k) q then 1 else 0
 
--- a value so many times more
+-- a value with n added to its count
 abbrev pub put_times : Key → ℕ → List (Key × ℕ) → List (Key × ℕ)
 put_times k m es = insert_entry key_cmp es k (had es k + m)
 
@@ -30,14 +30,14 @@ taken k m es None = es
 taken k m es (Some n) = if nat_lt m n then set_value (is_at (key_cmp k)) es (n - m) else remove_entry
     (is_at (key_cmp k)) es
 
--- a value so many times less, and not at all where it isn't there more often
+-- a value with n subtracted from its count, and not there where the count isn't greater
 abbrev pub take_times : Key → ℕ → List (Key × ℕ) → List (Key × ℕ)
 take_times k m es = taken k m es (lookup (is_at (key_cmp k)) es)
 
 abbrev pub take_one : Key → List (Key × ℕ) → List (Key × ℕ)
 take_one k es = take_times k 1 es
 
--- the number that a key is
+-- the number in a key
 abbrev pub number_in : Key → ℤ
 number_in (key.Int n) = n
 number_in k = pos 0

@@ -1,4 +1,4 @@
--- Places of values among ascending ones.
+-- Indices of values among ascending ones.
 use Rattle.std.specs.Prelude.{◌≡◌, ℕ, ◌<◌, ◌≤◌, List, Some, length, slice_get, take}
 use Rattle.std.specs.List.{AllByRecursion}
 use Rattle.std.specs.declared.cmp.Ordering.TheVariants.{Less, Equal, Greater}
@@ -9,13 +9,13 @@ use Rattle.group_state.specs.Keys.{key_cmp}
 abbrev pub ArePast : Key → List (Key × ℕ) → Type 0
 ArePast k es = AllByRecursion (λ e. key_cmp k e.0 ≡ Greater) es
 
--- The one of this number is that value, and those before it are lesser.
+-- Entry number n is that value, and those before it are less.
 pub record IsThere (k : Key) (n : ℕ) (es : List (Key × ℕ)) : Type 0 where
   pub within : n < length es
   pub past : ArePast k (take n es)
   pub at : (e : Key × ℕ) → slice_get es n ≡ Some e → key_cmp k e.0 ≡ Equal
 
--- The values before this place are lesser, and the next one, if there is one, is greater.
+-- The values before this index are less, and the next one, if there is one, is greater.
 pub record IsBefore (k : Key) (n : ℕ) (es : List (Key × ℕ)) : Type 0 where
   pub within : n ≤ length es
   pub past : ArePast k (take n es)

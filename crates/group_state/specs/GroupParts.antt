@@ -45,7 +45,7 @@ IsTally (parts.Values m) = IsMultiset m
 abbrev pub IsGroup : GroupParts → Type 0
 IsGroup g = All IsTally g.tallies.items
 
--- what groups keep of any rows
+-- groups that are those of some rows
 pub record AreGroups (p : GroupsParts) : Type 0 where
   pub groups : All IsGroup p.groups.items
   pub ascending : IsStrictlySortedBy tuple_cmp (keys_of (map group_with p.groups.items))

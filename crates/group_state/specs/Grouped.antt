@@ -4,7 +4,7 @@ use Rattle.values.specs.declared.key.Key.{Key}
 use Rattle.group_state.specs.GroupCounts.{GroupCounts}
 use Rattle.group_state.specs.declared.accumulated_columns.AccumulatedColumn.{AccumulatedColumn}
 
--- the grouping columns, the columns of which something is kept, and the groups by their tuples
+-- the grouping columns, the accumulated columns, and the groups by their tuples
 pub record Grouped : Type 0 where
   pub keys : List ℕ
   pub columns : List AccumulatedColumn

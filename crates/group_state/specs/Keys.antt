@@ -1,4 +1,4 @@
--- Keys and grouping tuples: their order, and what they are keys of.
+-- Keys and grouping tuples: their order, and the values of which they are the keys.
 use Rattle.std.specs.Prelude.{List, None, Option, Some, map}
 use Rattle.std.specs.Option.{unwrap_or}
 use Rattle.values.specs.Datum.{Datum, null}
@@ -23,11 +23,11 @@ tuple_cmp = slice_cmp key_cmp
 pub tuple_total : IsTotalOrder tuple_cmp
 tuple_total = lists_total key_total
 
--- the key that a cell is; a null where it is a list or a struct
+-- the key in a cell; a null where it is a list or a struct
 abbrev pub key_in : Datum → Key
 key_in d = unwrap_or (key_of d) key.Null
 
--- the tuple that keys are
+-- the tuple of keys
 abbrev pub data_of : List Key → List Datum
 data_of t = map datum_of_key t
 

@@ -1,4 +1,4 @@
--- A whole group moves: its rows go out of groups, or come into them, all at once.
+-- A whole group moves: its rows are removed from groups, or added to them, all at once.
 use Rattle.std.specs.Prelude.{◌≡◌, ◌+◌, ◌++◌, ◌<◌, ℕ, All, Bool, false, List, [], ◌∷◌, Option, count_by, length}
 use Rattle.std.specs.BTreeMap.{is_at}
 use Rattle.std.specs.List.{list_any}
@@ -13,7 +13,7 @@ use Rattle.group_state.specs.Rows.{KeepsRows}
 use Rattle.group_state.specs.Tuples.{tuple_of}
 use Rattle.group_state.specs.declared.accumulated_columns.AccumulatedColumn.{AccumulatedColumn}
 
--- Of all these rows each test counts as many as of those two lists together.
+-- Each test counts as many of all these rows as of those two lists together.
 abbrev pub AreTogether : List (List Datum) → List (List Datum) → List (List Datum) → Type 0
 AreTogether all some others = (p : List Datum → Bool) → count_by p all ≡ count_by p some + count_by p others
 
@@ -25,38 +25,38 @@ pub record IsPartOf (keys : List ℕ) (columns : List AccumulatedColumn) (t : Li
   pub tuple : All (λ row. tuple_of keys row ≡ t) moved
   pub some : 0 < g.rows
 
--- What is kept can take in a whole group: it is that of the others of some rows, and there are few of all these.
+-- A whole group can be added to a state: it is that of the others of some rows, and there are few of all these.
 abbrev pub CanTakeIn : (List (List Datum) → Type 0) → Grouped → List Key → GroupCounts → Type 0
 CanTakeIn keeps s t g =
     (all : List (List Datum)) × (moved : List (List Datum)) × (others : List (List Datum))
     × (keeps others × (IsPartOf s.keys s.columns t g all moved others × (length all < max_appended_rows)))
 
--- It took the group in: what was kept of the others is kept of all.
+-- It was added: what was the state of the others is that of all.
 abbrev pub TakesIn :
     (List (List Datum) → Type 0) → (List (List Datum) → Type 0) → Grouped → List Key → GroupCounts → Type 0
 TakesIn was is s t g =
     (all moved others : List (List Datum)) → IsPartOf s.keys s.columns t g all moved others → was others → is all
 
--- It can give a whole group up: it is that of all rows.
+-- A whole group can be removed from a state: it is that of all rows.
 abbrev pub CanGiveUp : (List (List Datum) → Type 0) → Grouped → List Key → GroupCounts → Type 0
 CanGiveUp keeps s t g =
     (all : List (List Datum)) × (moved : List (List Datum)) × (others : List (List Datum))
     × (keeps all × IsPartOf s.keys s.columns t g all moved others)
 
--- It gave the group up: what was kept of all is kept of the others.
+-- It was removed: what was the state of all is that of the others.
 abbrev pub GivesUp :
     (List (List Datum) → Type 0) → (List (List Datum) → Type 0) → Grouped → List Key → GroupCounts → Type 0
 GivesUp was is s t g =
     (all moved others : List (List Datum)) → IsPartOf s.keys s.columns t g all moved others → was all → is others
 
--- What is kept of rows can take in what is kept of more, of the same columns: there are few of both together.
+-- The state of more rows can be added to that of some, with the same columns: there are few of both together.
 abbrev pub CanAdd :
     (List AccumulatedColumn → List (List Datum) → Type 0) → (List AccumulatedColumn → List (List Datum) → Type 0) → Type 0
 CanAdd was more =
     (columns : List AccumulatedColumn) × (rest : List (List Datum)) × (moved : List (List Datum))
     × (was columns rest × (more columns moved × (length rest + length moved < max_appended_rows)))
 
--- It took them in.
+-- It was added.
 abbrev pub Adds :
     (List AccumulatedColumn → List (List Datum) → Type 0) → (List AccumulatedColumn → List (List Datum) → Type 0)
     → (List AccumulatedColumn → List (List Datum) → Type 0) → Type 0
@@ -96,6 +96,6 @@ abbrev pub begins_with : Key → List Key → Bool
 begins_with k [] = false
 begins_with k (a ∷ t) = is_at (key_cmp k) a
 
--- whether a tuple begins with the key that one of these values is
+-- whether a tuple begins with the key of one of these values
 abbrev pub begins_with_one : List Datum → List Key → Bool
 begins_with_one ds t = list_any (λ d. begins_with (key_in d) t) ds

@@ -4,7 +4,7 @@ use Rattle.std.specs.declared.cmp.Ordering.TheVariants.{Equal}
 use Rattle.values.specs.declared.key.Key.{Key}
 use Rattle.group_state.specs.Keys.{key_cmp}
 
--- a value that is there so often; none where that is 0 times
+-- a value with this count; none where it is 0
 abbrev pub counted_once : Key → ℕ → List (Key × ℕ)
 counted_once k zero = []
 counted_once k (suc n) = (k, suc n) ∷ []

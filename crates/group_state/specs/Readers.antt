@@ -1,4 +1,4 @@
--- What is read of the rows of groups where they lie.
+-- What is read from the rows of groups where they lie.
 use Rattle.std.specs.Prelude.{List, Option}
 use Rattle.std.specs.Option.{option_and_then, option_map}
 use Rattle.values.specs.Datum.{Datum}
@@ -10,7 +10,7 @@ use Rattle.group_state.specs.Grouped.{Grouped}
 use Rattle.group_state.specs.Groups.{group_at}
 use Rattle.group_state.specs.declared.accumulated_columns.AccumulatedColumn.{AccumulatedColumn}
 
--- what is read of the row that outputs show of a tuple's group: nothing where there is no such group
+-- what is read from the row that outputs show of a tuple's group: nothing where there is no such group
 abbrev pub read_under :
     {X : Type 0} → (List Datum → Option X) → List AccumulatedColumn → List GroupOutput → List (List Key × GroupCounts)
     → List Key → Option X

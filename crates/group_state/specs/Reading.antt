@@ -1,4 +1,4 @@
--- Reading group rows out of groups that are kept.
+-- Reading group rows from groups.
 use Rattle.std.specs.Prelude.{◌≡◌, ℕ, List, [], ◌∷◌, not, filter, Option, None, Some, All}
 use Rattle.std.specs.List.{AllByRecursion}
 use Rattle.values.specs.Datum.{Datum, is_null}
@@ -23,7 +23,7 @@ use Rattle.group_state.specs.Rows.{KeepsRows}
 abbrev pub filled : List Datum → List Datum
 filled ds = filter (λ d. not (is_null d)) ds
 
--- a column of the output can be made of what is kept of these rows
+-- a column of the output can be computed from what is stored of these rows
 pub record CanRead (columns : List AccumulatedColumn) (rows : List (List Datum)) (out : Aggregate) : Type 0 where
   pub kept : IsAccumulated columns out
   pub sums : SumFits out rows
@@ -34,7 +34,7 @@ abbrev pub IsThat : AccumulatorForm → Option Tally → List Datum → Type 0
 IsThat form None cells = ⊥
 IsThat form (Some t) cells = KeepsCells form t cells
 
--- cells are the group row of each rows that the group is kept for
+-- the cells are the group row of any rows of which the group is that
 pub record IsRead
     (columns : List AccumulatedColumn) (outs : List GroupOutput) (e : List Key × GroupCounts) (cells : List Datum) :
     Type 0 where
@@ -47,14 +47,14 @@ AreRead columns outs [] (r ∷ rs) = ⊥
 AreRead columns outs (e ∷ es) [] = ⊥
 AreRead columns outs (e ∷ es) (r ∷ rs) = IsRead columns outs e r × AreRead columns outs es rs
 
--- these columns of the output can be made for the groups of these rows
+-- these columns of the output can be computed for the groups of these rows
 pub record CanReadAll
     (by : List ℕ) (columns : List AccumulatedColumn) (outs : List GroupOutput) (rows : List (List Datum)) : Type 0 where
   pub kept : All (λ o. IsAccumulated columns o.aggregate) outs
   pub sums : AreSummable outs rows
   pub keys : AllByRecursion (UsesKeys by outs) rows
 
--- This holds of the rows of which groups are kept, where these columns of the output can be made for them.
+-- This holds of the rows of which the groups are those, where these columns of the output can be computed for them.
 abbrev pub WhereRead :
     (List (List Datum) → Type 0) → Grouped → List GroupOutput → (List (List Datum) → Type 0) → Type 0
 WhereRead keeps s outs P = (rows : List (List Datum)) → keeps rows → CanReadAll s.keys s.columns outs rows → P rows

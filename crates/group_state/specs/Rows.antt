@@ -1,4 +1,4 @@
--- What a group keeps of its rows.
+-- What a group stores of its rows.
 use Rattle.std.specs.Prelude.{◌≡◌, ◌<◌, ℕ, List, length, map, slice_index_or}
 use Rattle.values.specs.Datum.{Datum, null}
 use Rattle.group_state.specs.declared.tally.Tally.{Tally}

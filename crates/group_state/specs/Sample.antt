@@ -10,7 +10,7 @@ cell_of (Some n) = whole n
 abbrev pub row_of : ℤ → Option ℤ → List Datum
 row_of a b = whole a ∷ cell_of b ∷ []
 
--- Three rows of 7 and one of 5 come, of which a 7 and the 5 go.
+-- Three rows of 7 and one of 5 are inserted, of which a 7 and the 5 are deleted.
 abbrev pub sample_change : List Shift
 sample_change =
     shift 0 None (Some (row_of (pos 7) (Some (pos 3))))

@@ -1,4 +1,4 @@
--- What is seen of the tallies of a group, whatever the rows are.
+-- What is read from the tallies of a group, whatever the rows are.
 use Rattle.std.specs.Prelude.{ℕ, zero, suc, ℤ, pos, cond, List, [], ◌∷◌, length, Option, None, Some, slice_get}
 use Rattle.std.specs.Option.{option_and_then}
 use Rattle.values.specs.Datum.{Datum, null, whole}
@@ -9,7 +9,7 @@ use Rattle.group_state.specs.declared.accumulated_columns.AccumulatedColumn.{Acc
 use Rattle.group_state.specs.declared.tally.Tally.{Tally}
 use Rattle.group_state.specs.declared.tally.Tally.TheVariants as tally
 
--- the first place of a column among others, counted from n
+-- the first index of a column among others, counted from n
 abbrev pub index_from : ℕ → List AccumulatedColumn → AccumulatedColumn → Option ℕ
 index_from n [] k = None
 index_from n (c ∷ cs) k = cond (same_column c k) (Some n) (index_from (suc n) cs k)

@@ -1,4 +1,4 @@
-//! Columns that groups keep something of.
+//! Columns that groups accumulate.
 
 ghost use Rattle.group_state.specs.AccumulatedColumns.{counted, is_accumulated, same_column, same_form as same_form_by, valued};
 ghost use Rattle.std.specs.Prelude.{All, Bool, OnOk, true, ◌≡◌, ℕ};
@@ -6,14 +6,14 @@ ghost use Rattle.group_state.specs.declared.accumulated_columns.AccumulatedColum
 
 use std::alloc::AllocError;
 
-/// A column that groups keep something of. One column may be kept in both forms.
+/// A column that groups accumulate. One column may be accumulated in both forms.
 #[derive(Debug, Clone, Copy)]
 pub struct AccumulatedColumn {
     pub column: usize,
     pub form: AccumulatorForm,
 }
 
-/// What groups keep of a column.
+/// What groups store of a column.
 #[derive(Debug, Clone, Copy)]
 pub enum AccumulatorForm {
     /// How many cells aren't null, and their sum.

@@ -1,4 +1,4 @@
-//! The aggregates of groups: which columns groups keep for each, and what it shows of a group.
+//! The aggregates of groups: which columns groups accumulate for each, and what it shows of a group.
 
 ghost use Rattle.group_state.specs.Aggregates.{AreReadBy, IsAccumulated, accumulated_for, reads, seen_cell};
 ghost use Rattle.group_state.specs.declared.accumulated_columns.AccumulatedColumn.{AccumulatedColumn};
@@ -29,7 +29,7 @@ pub(crate) fn accumulated_columns(
     Ok(columns)
 }
 
-/// What groups keep of a column for an output: its number, and the form that the output reads.
+/// The column that groups accumulate for an output, in the form that the output reads.
 fn accumulated_for(aggregate: Aggregate) -> Option<AccumulatedColumn>
     ensures { result ≡ accumulated_for aggregate }
 {

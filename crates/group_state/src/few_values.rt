@@ -1,4 +1,4 @@
-//! A few values, with how often each is there, in one piece of memory.
+//! A few values, with how often each is there, in one allocation.
 
 ghost use Rattle.group_state.specs.Counts.{had, keeps_none, put_times, take_times};
 ghost use Rattle.group_state.specs.FewValues.{IsBefore, IsThere};
@@ -116,7 +116,7 @@ impl FewValues {
         }
     }
 
-    /// Where a value is; or, as an error, where it would be.
+    /// The index of a value; or, as an error, the index at which it would be inserted.
     fn place(&self, key: &Key) -> Result<usize, usize>
         ensures { MatchResult result (λ n. IsThere key.now n self.now) (λ n. IsBefore key.now n self.now) }
     {
@@ -130,7 +130,7 @@ impl FewValues {
         Err(self.counts.len())
     }
 
-    /// The value of a place.
+    /// The value at an index.
     pub(crate) fn key(&self, place: usize) -> &Key
         requires { place < length self.now }
         ensures { (e : Key × ℕ) → result.now ≡ (slice_index_or self.now place e).0 }
@@ -138,7 +138,7 @@ impl FewValues {
         &self.counts[place].0
     }
 
-    /// How often the value of a place is there.
+    /// The count of the value at an index.
     pub(crate) fn count(&self, place: usize) -> u64
         requires { place < length self.now }
         ensures { (e : Key × ℕ) → result ≡ (slice_index_or self.now place e).1 }
@@ -146,7 +146,7 @@ impl FewValues {
         self.counts[place].1
     }
 
-    /// Counts the value of this place so many times more.
+    /// Adds `times` to the count of the value at this index.
     fn raise(&mut self, place: usize, times: u64)
         requires some { 0 < times }
         requires there { (key : Key) × (IsThere key place self.old × (had self.old key + times < 2 ^ 64)) }
@@ -155,7 +155,7 @@ impl FewValues {
         self.counts[place].1 += times;
     }
 
-    /// Puts a value at its place, where it isn't yet. If memory is refused, nothing has changed.
+    /// Inserts a value at its index, where it isn't yet. If memory is refused, nothing has changed.
     fn insert(&mut self, place: usize, key: Key, times: u64) -> Result<(), AllocError>
         requires some { 0 < times }
         requires before { IsBefore key place self.old }
@@ -167,7 +167,7 @@ impl FewValues {
         Ok(())
     }
 
-    /// Counts the value of this place so many times less, and removes it when none is left.
+    /// Subtracts `times` from the count of the value at this index, and removes the value where the count becomes 0.
     fn lower(&mut self, place: usize, times: u64)
         requires { (key : Key) × IsThere key place self.old }
         ensures { (key : Key) → IsThere key place self.old → self.new ≡ take_times key times self.old }
@@ -180,7 +180,7 @@ impl FewValues {
         }
     }
 
-    /// Adds a value so many times. If memory is refused, nothing has changed.
+    /// Adds a value `times` times. If memory is refused, nothing has changed.
     pub(crate) fn add(&mut self, key: Key, times: u64) -> Result<(), AllocError>
         requires some { 0 < times }
         requires few { had self.old key + times < 2 ^ 64 }
@@ -197,7 +197,7 @@ impl FewValues {
         }
     }
 
-    /// Removes a value so many times, as far as it is there.
+    /// Removes a value `times` times, or as often as it is there.
     pub(crate) fn remove(&mut self, key: &Key, times: u64)
         ensures { self.new ≡ take_times key.now times self.old }
     {

@@ -18,7 +18,7 @@ use std::alloc::{AllocError, Global};
 use std::marker::Model;
 use view_lang::RowView;
 
-/// What is kept of a group: the number of its rows, and a tally of each column that outputs read.
+/// What is stored of a group: the number of its rows, and a tally of each column that outputs read.
 #[derive(Debug, Drop)]
 pub struct Group {
     rows: u64,
@@ -92,7 +92,7 @@ impl Group {
         self.rows
     }
 
-    /// The tally of a column in a form; `None` if the group keeps none.
+    /// The tally of a column in a form; `None` if the group has none.
     pub(crate) fn tally(
         &self,
         columns: &[AccumulatedColumn],
@@ -221,7 +221,7 @@ fn remove_each<R: RowView>(
     Ok(())
 }
 
-/// The place of a column in a form among others.
+/// The index of a column in a form among others.
 fn place(columns: &[AccumulatedColumn], column: AccumulatedColumn) -> Option<usize>
     ensures { result ≡ index_from 0 columns.now column }
 {

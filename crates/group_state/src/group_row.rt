@@ -1,4 +1,4 @@
-//! Rows of groups where they lie: in the grouping tuple and in what is kept of the group.
+//! Rows of groups where they lie: in the grouping tuple and in the tallies of the group.
 
 ghost use Rattle.std.specs.Prelude.{◌≡◌, IfOk};
 ghost use Rattle.group_state.specs.Aggregates.{seen_row};

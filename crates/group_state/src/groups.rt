@@ -81,7 +81,7 @@ use std::marker::Model;
 use values::{Key, Row, Value};
 use view_lang::{Change, GroupOutput, RowChange, RowView, Upkeep, group_law};
 
-/// The groups of rows that are alike in the grouping columns, each with what is kept of other columns. Without grouping
+/// The groups of rows that are alike in the grouping columns, each with tallies of other columns. Without grouping
 /// columns all rows are one group.
 #[derive(Debug, Drop)]
 pub struct Groups {
@@ -118,7 +118,7 @@ impl Groups {
         })
     }
 
-    /// Takes the groups apart. The parts are all that they keep. If memory is refused, they are lost.
+    /// Takes the groups apart. The parts are all that they store. If memory is refused, they are lost.
     pub fn into_parts(self) -> Result<GroupsParts, AllocError>
         ensures value { IfOk result (λ parts. grouped_with parts ≡ self) }
         ensures kept { IfOk result (λ parts. AreGroups parts) }
@@ -196,7 +196,7 @@ impl Groups {
         Ok(read_rows(alloc, outputs, &self.groups, self.columns.as_slice())?)
     }
 
-    /// The first of the rows that `rows` makes, at most `most` of them. No other group is read.
+    /// The first of the rows that `rows` gives, at most `most` of them. No other group is read.
     pub fn first_rows(
         &self,
         alloc: Global,
@@ -226,7 +226,7 @@ impl Groups {
         }
     }
 
-    /// The columns of which something is kept.
+    /// The columns that the groups accumulate.
     pub fn columns(&self) -> &[AccumulatedColumn]
         ensures { result.now ≡ self.now.columns }
     {
@@ -278,7 +278,7 @@ impl Groups {
     }
 
     /// The tuples of the groups that begin with one of these values, each once, in ascending order. A list or a struct
-    /// counts as a null. For each value at most one other group is looked at.
+    /// counts as a null. For each value at most one other group is visited.
     pub fn tuples_under(&self, values: &[Value]) -> Result<Vec<Tuple>, AllocError>
         ensures tuples { IfOk result (λ tuples. (t : List Key) → is_tuple_among t tuples.items
             ≡ (begins_with_one values.now t && is_tuple_among t (keys_of self.now.groups))) }
@@ -325,7 +325,7 @@ impl Groups {
 }
 
 impl Groups {
-    /// Applies a change of rows: additions come before removals.
+    /// Applies a change of rows: additions before removals.
     pub fn apply_change(&mut self, change: &Change) -> Result<(), AllocError>
         requires { (rows : NumberedRows)
             × (Keeps self.old (values_of rows) × (Fits rows change.now × IsFew rows change.now)) }
@@ -399,7 +399,7 @@ impl Groups {
         Ok(())
     }
 
-    /// A row comes, under a number that no row has. After an error what is kept has no meaning.
+    /// Inserts a row with a number that no row has. After an error the groups are meaningless.
     pub fn come<R: RowView>(&mut self, row: &R) -> Result<(), AllocError>
         requires { (rows : NumberedRows) × (Keeps self.old (values_of rows) × (length rows < max_appended_rows)) }
         ensures kept { OnOk result ((rows : NumberedRows) (n : ℕ)
@@ -414,8 +414,8 @@ impl Groups {
         Ok(())
     }
 
-    /// A row comes, of which this is the tuple, under a number that no row has. Gives what is read of the group of the
-    /// tuple before and after that. After an error what is kept has no meaning.
+    /// Inserts a row, of which this is the tuple, with a number that no row has. Returns what is read from the group of
+    /// the tuple before and after that. After an error the groups are meaningless.
     pub fn come_to<R: RowView, S: GroupReader>(
         &mut self,
         tuple: &Tuple,
@@ -439,7 +439,7 @@ impl Groups {
         Ok(self.add_to(tuple, row, outputs, reader)?)
     }
 
-    /// The row under a number goes. After an error what is kept has no meaning.
+    /// Deletes the row of a number. After an error the groups are meaningless.
     pub fn go<R: RowView>(&mut self, row: &R) -> Result<(), AllocError>
         requires { (rows : NumberedRows) × (n : ℕ) × (Keeps self.old (values_of rows)
             × (IsStrictlySortedBy nat_cmp (keys_of rows) × (row_at n rows ≡ Some (R.cells row.now)))) }
@@ -455,8 +455,8 @@ impl Groups {
         Ok(())
     }
 
-    /// The row under a number goes, of which this is the tuple. Gives what is read of the group of the tuple before
-    /// and after that. After an error what is kept has no meaning.
+    /// Deletes the row of a number, of which this is the tuple. Returns what is read from the group of the tuple before
+    /// and after that. After an error the groups are meaningless.
     pub fn go_from<R: RowView, S: GroupReader>(
         &mut self,
         tuple: &Tuple,
@@ -495,7 +495,7 @@ impl Groups {
         Ok(())
     }
 
-    /// Adds a row of which this is the tuple. Gives what is read of the group of the tuple before and after that.
+    /// Adds a row of which this is the tuple. Returns what is read from the group of the tuple before and after that.
     fn add_to<R: RowView, S: GroupReader>(
         &mut self,
         tuple: &Tuple,
@@ -540,7 +540,8 @@ impl Groups {
         Ok(())
     }
 
-    /// Removes a row of which this is the tuple. Gives what is read of the group of the tuple before and after that.
+    /// Removes a row of which this is the tuple. Returns what is read from the group of the tuple before and after
+    /// that.
     fn remove_from<R: RowView, S: GroupReader>(
         &mut self,
         tuple: &Tuple,
@@ -573,8 +574,8 @@ impl Groups {
 }
 
 impl Groups {
-    /// The rows of a group come, all at once: they have this tuple. Gives what is read of the group of the tuple before
-    /// and after that. After an error what is kept has no meaning.
+    /// Adds the rows of a group, all at once: they have this tuple. Returns what is read from the group of the tuple
+    /// before and after that. After an error the groups are meaningless.
     pub fn take_in<S: GroupReader>(
         &mut self,
         tuple: &Tuple,
@@ -603,8 +604,8 @@ impl Groups {
         )?)
     }
 
-    /// The rows of a group go, all at once: they have this tuple. Gives what is read of the group of the tuple before
-    /// and after that. The rows go also where that can't be read.
+    /// Removes the rows of a group, all at once: they have this tuple. Returns what is read from the group of the tuple
+    /// before and after that. The rows are removed also where that can't be read.
     pub fn give_up<S: GroupReader>(
         &mut self,
         tuple: &Tuple,
@@ -662,7 +663,7 @@ fn insert_tuple(
     Ok(())
 }
 
-/// The keys that values are, each once.
+/// The keys among values, each once.
 fn keys_among(alloc: Global, values: &[Value]) -> Result<BTreeSet<Key>, AllocError>
     ensures { IfOk result (λ keys. (k : Key) → list_any (is_at (key_cmp k)) keys.keys
         ≡ list_any (λ d. is_at (key_cmp k) (key_in d)) values.now) }
@@ -686,7 +687,7 @@ fn in_order(alloc: Global, tuples: BTreeSet<Tuple>) -> Result<Vec<Tuple>, AllocE
     Ok(listed)
 }
 
-/// Adds a row to the group of its tuple. Gives what is read of the group before and after that.
+/// Adds a row to the group of its tuple. Returns what is read from the group before and after that.
 fn put_row<R: RowView, S: GroupReader>(
     groups: &mut BTreeMap<Tuple, Group>,
     alloc: Global,
@@ -723,8 +724,8 @@ fn put_row<R: RowView, S: GroupReader>(
     })
 }
 
-/// Removes a row from the group of its tuple, and the group with its last row. Gives what is read of the group before
-/// and after that.
+/// Removes a row from the group of its tuple, and the group with its last row. Returns what is read from the group
+/// before and after that.
 fn take_row<R: RowView, S: GroupReader>(
     groups: &mut BTreeMap<Tuple, Group>,
     alloc: Global,
@@ -765,7 +766,7 @@ fn take_row<R: RowView, S: GroupReader>(
     })
 }
 
-/// Adds the rows of a group to the group of their tuple. Gives what is read of that group before and after that.
+/// Adds the rows of a group to the group of their tuple. Returns what is read from that group before and after that.
 fn put_group<S: GroupReader>(
     groups: &mut BTreeMap<Tuple, Group>,
     alloc: Global,
@@ -801,8 +802,8 @@ fn put_group<S: GroupReader>(
     })
 }
 
-/// Removes the rows of a group from the group of their tuple, and that group with its last row. Gives what is read of
-/// that group before and after that.
+/// Removes the rows of a group from the group of their tuple, and that group with its last row. Returns what is read
+/// from that group before and after that.
 #[tactic(auto, using(crate::proofs::Moves::none_left))]
 fn take_group<S: GroupReader>(
     groups: &mut BTreeMap<Tuple, Group>,

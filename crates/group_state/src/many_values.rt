@@ -120,7 +120,7 @@ impl ManyValues {
         }
     }
 
-    /// Puts a value that isn't there, so often. If memory is refused, nothing has changed.
+    /// Inserts a value that isn't there, with this count. If memory is refused, nothing has changed.
     pub(crate) fn put(&mut self, key: Key, count: u64) -> Result<(), AllocError>
         requires { 0 < count }
         ensures ok { OnOk result (self.new ≡ insert_entry key_cmp self.old key count) }
@@ -137,7 +137,7 @@ impl ManyValues {
         self.counts.iter()
     }
 
-    /// Adds a value so many times. If memory is refused, nothing has changed.
+    /// Adds a value `times` times. If memory is refused, nothing has changed.
     pub(crate) fn add(&mut self, key: Key, times: u64) -> Result<(), AllocError>
         requires some { 0 < times }
         requires few { had self.old key + times < 2 ^ 64 }
@@ -148,7 +148,7 @@ impl ManyValues {
         Ok(())
     }
 
-    /// Removes a value so many times, as far as it is there.
+    /// Removes a value `times` times, or as often as it is there.
     pub(crate) fn remove(&mut self, key: &Key, times: u64)
         ensures { self.new ≡ take_times key.now times self.old }
     {
@@ -156,7 +156,7 @@ impl ManyValues {
     }
 }
 
-/// Lowers a value's count, and removes the value when none is left.
+/// Lowers a value's count, and removes the value where it becomes 0.
 fn take_from(counts: &mut BTreeMap<Key, u64>, key: &Key, times: u64)
     ensures entries { counts.new.entries ≡ take_times key.now times counts.old.entries }
     ensures ordered { IsStrictlySortedBy key_cmp (keys_of counts.old.entries) }

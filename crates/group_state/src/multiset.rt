@@ -21,10 +21,10 @@ use std::alloc::{AllocError, Global};
 use std::marker::Model;
 use values::Key;
 
-/// More values than this are kept in a tree.
+/// More values than this are stored in a tree.
 const MOST_FEW: usize = 8;
 
-/// One value in its place, a few values in one piece of memory, or many in a tree.
+/// One value inline, a few values in one allocation, or many in a tree.
 #[derive(Debug, Drop)]
 enum Counts {
     One(OneValue),
@@ -48,7 +48,7 @@ impl Model for Multiset {
     ghost view = { λ m. counted_in m.counts };
 }
 
-/// The values in a wider form, where this one can't be added in theirs.
+/// The values in a wider form, where this value can't be added in theirs.
 fn widened(counts: &Counts, alloc: Global, key: &Key) -> Result<Option<Counts>, AllocError>
     ensures same { IfOk result (λ found. IfSome found (λ wider. counted_in wider ≡ counted_in counts.now)) }
     ensures room { IfOk result (λ found. MatchOption found (HasRoom key.now counts.now) (HasRoom key.now)) }
@@ -70,7 +70,7 @@ fn widened(counts: &Counts, alloc: Global, key: &Key) -> Result<Option<Counts>, 
     }
 }
 
-/// Moves the values into a wider form, where this one can't be added in theirs. If memory is refused, nothing has
+/// Moves the values into a wider form, where this value can't be added in theirs. If memory is refused, nothing has
 /// changed.
 fn make_room(counts: &mut Counts, alloc: Global, key: &Key) -> Result<(), AllocError>
     ensures same { counted_in counts.new ≡ counted_in counts.old }
@@ -82,7 +82,7 @@ fn make_room(counts: &mut Counts, alloc: Global, key: &Key) -> Result<(), AllocE
     Ok(())
 }
 
-/// Adds a value so many times. If memory is refused, nothing has changed.
+/// Adds a value `times` times. If memory is refused, nothing has changed.
 fn put(counts: &mut Counts, key: Key, times: u64) -> Result<(), AllocError>
     requires some { 0 < times }
     requires room { HasRoom key counts.old }
@@ -100,7 +100,7 @@ fn put(counts: &mut Counts, key: Key, times: u64) -> Result<(), AllocError>
     }
 }
 
-/// Removes a value so many times, as far as it is there.
+/// Removes a value `times` times, or as often as it is there.
 fn take(counts: &mut Counts, key: &Key, times: u64)
     ensures { counted_in counts.new ≡ take_times key.now times (counted_in counts.old) }
 {
@@ -206,7 +206,7 @@ impl Multiset {
         take(&mut self.counts, key, 1);
     }
 
-    /// Adds a value so many times.
+    /// Adds a value `times` times.
     fn add_times(&mut self, alloc: Global, key: &Key, times: u64) -> Result<(), AllocError>
         requires some { 0 < times }
         requires few { had self.old key.now + times < 2 ^ 64 }
@@ -218,7 +218,7 @@ impl Multiset {
         Ok(())
     }
 
-    /// Removes a value so many times, as far as it is there.
+    /// Removes a value `times` times, or as often as it is there.
     fn remove_times(&mut self, key: &Key, times: u64)
         ensures { (q : Key) → had self.new q ≡ had self.old q - cond (is_at (key_cmp key.now) q) times 0 }
     {

@@ -1,4 +1,4 @@
-//! One value, with how often it is there, in its place.
+//! One value, with how often it is there, stored inline.
 
 ghost use Rattle.group_state.specs.Counts.{had, keeps_none, put_times, take_times};
 ghost use Rattle.group_state.specs.Folds.{first_of, last_of};
@@ -117,7 +117,7 @@ impl OneValue {
         }
     }
 
-    /// Adds a value so many times. There is no other.
+    /// Adds a value `times` times. There is no other.
     pub(crate) fn add(&mut self, key: Key, times: u64)
         requires some { 0 < times }
         requires alone { CanTake key self.old }
@@ -132,7 +132,7 @@ impl OneValue {
         }
     }
 
-    /// Removes a value so many times, as far as it is there.
+    /// Removes a value `times` times, or as often as it is there.
     pub(crate) fn remove(&mut self, key: &Key, times: u64)
         ensures { self.new ≡ take_times key.now times self.old }
     {

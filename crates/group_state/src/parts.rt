@@ -4,7 +4,7 @@ use crate::accumulated_columns::AccumulatedColumn;
 use crate::total::Total;
 use values::Key;
 
-/// All that `Groups` keep: the numbers of the grouping columns, the columns with tallies, and the groups, ascending by
+/// All that `Groups` store: the numbers of the grouping columns, the columns with tallies, and the groups, ascending by
 /// their tuples.
 #[derive(Debug, Drop)]
 pub struct GroupsParts {
@@ -13,7 +13,7 @@ pub struct GroupsParts {
     pub groups: Vec<GroupParts>,
 }
 
-/// A group: its keys in the grouping columns, the number of its rows, and a tally of each column that is kept.
+/// A group: its keys in the grouping columns, the number of its rows, and a tally of each accumulated column.
 #[derive(Debug, Drop)]
 pub struct GroupParts {
     pub tuple: Vec<Key>,

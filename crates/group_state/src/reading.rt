@@ -1,4 +1,4 @@
-//! Group rows, read out of groups.
+//! Group rows, read from groups.
 
 ghost use Rattle.std.specs.Prelude.{◌≡◌, IfOk, map, take};
 ghost use Rattle.group_state.specs.Reading.{AreRead};

@@ -19,7 +19,7 @@ pub(crate) fn is_null_at<R: RowView>(row: &R, column: usize) -> bool
     row.cell(column).is_null()
 }
 
-/// The whole number that a row has in a column; 0 where it has none.
+/// The whole number in a row's cell of a column; 0 where it isn't one.
 #[tactic(auto, using(crate::proofs::Totals::number_laws))]
 pub(crate) fn number_at<R: RowView>(row: &R, column: usize) -> i128
     ensures { result ≡ number_in (cell column (R.cells row.now)) }
@@ -27,7 +27,7 @@ pub(crate) fn number_at<R: RowView>(row: &R, column: usize) -> i128
     number_of(row.cell(column))
 }
 
-/// The whole number that a cell is; 0 where it is none.
+/// The whole number in a cell; 0 where it isn't one.
 fn number_of(cell: CellView<'_>) -> i128
     ensures { result ≡ number_in (viewed cell.entry) }
 {
@@ -37,7 +37,7 @@ fn number_of(cell: CellView<'_>) -> i128
     }
 }
 
-/// What a row has in a column; `None` where that is a list or a struct.
+/// The key in a row's cell of a column; `None` where that is a list or a struct.
 #[tactic(auto, using(values::proofs::ShallowLemmas::shallow_laws))]
 pub(crate) fn key_at<R: RowView>(
     alloc: Global,

@@ -1,4 +1,4 @@
-//! Groups of a few rows, kept through a change of them.
+//! Groups of a few rows, kept current through a change of them.
 
 ghost use Rattle.std.specs.Prelude.{◌≡◌, ◌++◌, ◌∷◌, [], IfOk, None, OnOk, Some};
 ghost use Rattle.view_lang.specs.Shifts.{shift};
@@ -34,7 +34,7 @@ fn row(alloc: Global, first: i128, second: Option<i128>) -> Result<Row, AllocErr
     Ok(cells)
 }
 
-/// The change in which a row comes.
+/// The change in which a row is inserted.
 fn add(
     alloc: Global,
     change: &mut Change,
@@ -49,7 +49,7 @@ fn add(
     Ok(())
 }
 
-/// The change in which a row goes.
+/// The change in which a row is deleted.
 fn remove(
     alloc: Global,
     change: &mut Change,
@@ -64,7 +64,7 @@ fn remove(
     Ok(())
 }
 
-/// Three rows of 7 and one of 5 come, of which a 7 and the 5 go.
+/// Three rows of 7 and one of 5 are inserted, of which a 7 and the 5 are deleted.
 fn sample(alloc: Global) -> Result<Change, AllocError>
     ensures { IfOk result (λ change. change ≡ sample_change) }
 {
@@ -85,7 +85,7 @@ fn output(alloc: Global, aggregate: Aggregate) -> Result<GroupOutput, AllocError
     })
 }
 
-/// The first column, how many rows, and what is counted, summed and compared of the second.
+/// The first column, the number of rows, and the other aggregates of the second column.
 fn outputs(alloc: Global) -> Result<Vec<GroupOutput>, AllocError> {
     let mut outputs = Vec::new(alloc);
     outputs.push(output(alloc, Aggregate::Key(0))?)?;
@@ -126,7 +126,7 @@ fn keeps_groups_through_a_change(rt: HostRuntime) -> Result<(), Fail> {
     Ok(())
 }
 
-/// The groups by the first column of one row of 7, after another came and went.
+/// The groups by the first column of one row of 7, after another was inserted and deleted.
 fn followed_groups(alloc: Global, outputs: &[GroupOutput]) -> Result<Groups, AllocError> {
     let three = row(alloc, 7, Some(3))?;
     let five = row(alloc, 7, Some(5))?;
@@ -175,7 +175,7 @@ fn one_group(alloc: Global, row: &[Value]) -> Result<Groups, AllocError>
     Ok(groups)
 }
 
-/// The group of one row comes into that of another.
+/// The group of one row is added to that of another.
 fn groups_with_more(alloc: Global, row: &[Value], other: &[Value]) -> Result<Groups, AllocError> {
     let ones = one_group(alloc, other)?;
     let mut groups = one_group(alloc, row)?;
@@ -200,7 +200,7 @@ fn takes_a_group_in(rt: HostRuntime) -> Result<(), Fail> {
     Ok(())
 }
 
-/// One of two rows goes as a group.
+/// One of two rows is removed as a group.
 fn groups_with_less(alloc: Global, row: &[Value], other: &[Value]) -> Result<Groups, AllocError> {
     let ones = one_group(alloc, other)?;
     let mut groups = one_group(alloc, row)?;

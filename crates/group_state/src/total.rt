@@ -20,7 +20,7 @@ pub struct Total {
 }
 
 impl Total {
-    /// Adds a row's cell. Nothing is copied of it.
+    /// Adds a row's cell. It isn't copied.
     pub(crate) fn add<R: RowView>(&mut self, row: &R, column: usize)
         requires { (cells : List Datum) × (KeepsTotal self.old cells × (length cells < max_appended_rows)) }
         ensures { (cells : List Datum) → KeepsTotal self.old cells

@@ -17,15 +17,15 @@ use std::slice;
 use values::{CellView, Key, Value};
 use view_lang::RowView;
 
-/// One key where it lies, or any number of them in a piece of memory.
+/// One key inline, or any number of them in one allocation.
 #[derive(Debug, Drop)]
 enum TupleKeys {
     One(Key),
     Many(Vec<Key>),
 }
 
-/// A grouping tuple: what a row has in the grouping columns, in order. That of one column takes no memory but what its
-/// key takes. Contracts see the list of keys.
+/// A grouping tuple: the keys of a row's cells in the grouping columns, in order. That of one column takes no memory
+/// but what its key takes. Contracts see the list of keys.
 #[derive(Debug, Drop)]
 pub struct Tuple {
     keys: TupleKeys,
@@ -125,7 +125,7 @@ impl Tuple {
         }
     }
 
-    /// The tuple of these keys. Their memory is given back where there is one.
+    /// The tuple of these keys. Their list's memory is freed where there is one key.
     pub fn of_keys(keys: Vec<Key>) -> Tuple
         ensures { result ≡ keys.items }
     {
@@ -197,7 +197,7 @@ impl Tuple {
         Tuple::many(Vec::new(alloc))
     }
 
-    /// The value at place `k` where it lies; null where there is none.
+    /// The value at index `k` where it lies; null where there is none.
     pub fn view(&self, k: usize) -> CellView<'_>
         ensures { viewed result ≡ shallow (cell_at (data_of self.now) k) }
     {
@@ -207,7 +207,7 @@ impl Tuple {
         }
     }
 
-    /// A copy of the value at place `k`; null where there is none.
+    /// A copy of the value at index `k`; null where there is none.
     pub fn cell(&self, alloc: Global, k: usize) -> Result<Value, AllocError>
         ensures { IfOk result (λ cell. cell ≡ cell_at (data_of self.now) k) }
     {

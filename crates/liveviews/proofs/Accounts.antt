@@ -52,7 +52,7 @@ fresh-left i bytes f = record {
   tells = ap (λ t. after_lines t (account_of bytes)) (sym f.empty);
 }
 
--- an account by its first event
+-- an account, by its first event
 account-led : (o : Option Event) (t : Transcript) → account_in (led_by o t) ≡ after_lines (given_lines o) (account_in t)
 account-led None t = refl
 account-led (Some e) t = refl
@@ -72,7 +72,7 @@ closed-none [] used e is =
     absurd (cc)
 closed-none (b ∷ bs) used e is = absurd (cc)
 
--- A feed hands on events only before the end.
+-- A feed gives events only before the end.
 event-opened : (c : Condition) (k : Retained) (bytes : List ℕ) (used : ℕ) (e : Event)
     → given_when c k bytes ≡ Ok (given used (Some e)) → c ≡ condition.Opened
 event-opened condition.Opened k bytes used e is = refl
@@ -122,7 +122,7 @@ pub after-shows : (s : FeedState) (bytes : List ℕ) (g : Given)
 unfolding after_push
 after-shows s bytes g = refl
 
--- A push was taken, and its lines were written.
+-- A push was accepted, and its lines were written.
 pub open-step :
     (old new : Inspection) (pushed : FeedParts) (bytes : List ℕ) (f : Fed)
     → ((t : FeedState) → Shows old.feed t → Gives t bytes (Ok (seen f)))
@@ -224,12 +224,12 @@ left-breaks law a i bytes later f some answer l = elim (gives-fault l.state byte
       (stops-at law a l.state (string_bytes i.text) bytes later f (gives l.state bytes) some l.tells refl stands)
 ]
 
--- Nothing is left of a piece.
+-- Nothing remains of a piece.
 no-bytes : (bytes : List ℕ) → length bytes ≤ 0 → bytes ≡ []
 no-bytes [] none = refl
 no-bytes (b ∷ bs) none = absurd (omega (arith, none))
 
--- A whole input is a piece behind which nothing comes.
+-- A whole input is a piece after which nothing comes.
 pub left-whole : (a : Account) (i : Inspection) (bytes : List ℕ) → IsLeft a i bytes → IsLeft a i (bytes ++ [])
 left-whole a i bytes l = subst (IsLeft a i) (sym (append-nil bytes)) l
 
@@ -313,14 +313,14 @@ pub written-none : (marked : Bool) (old : List ℕ) → marked ≡ true
 written-none true old is = sym (append-nil old)
 written-none false old is = absurd (cc)
 
--- what came of a whole input
+-- the result for a whole input
 pub has-run :
     (text input : List ℕ) (ran : Result (Unit {0}) StreamFault) → OnOk ran (ReportsAccount (account_of input) text 0)
     → IfErr ran (Breaks (account_of input) text) → HasRun text ran input
 has-run text input (Ok u) tells breaks = tells
 has-run text input (Err f) tells breaks = breaks
 
--- A fault in a piece stands in the stream, whatever comes behind the piece.
+-- A fault in a piece is one of the stream, whatever comes after the piece.
 pub takes-more :
     (i : Inspection) (piece : List ℕ) (new : Inspection)
     → ((a : Account) (later : List ℕ) → IsLeft a i (piece ++ later) → IsLeft a new later) → (bytes : List ℕ)
@@ -346,7 +346,7 @@ pub takes-all :
     → HasConsumed i (Ok u) bytes
 takes-all i u bytes left = subst (λ (xs : List ℕ). IsLeft (account_of xs) i []) (append-nil bytes) (left [])
 
--- A fault was told that isn't want of memory.
+-- A fault was reported that isn't want of memory.
 breaks-tell :
     (text input : List ℕ) (f : StreamFault) (all : List ℕ) → (f ≡ fault.Memory → ⊥) → Breaks (account_of input) text f
     → all ≡ text ++ refusal_line f → ReportsAccount (account_of input) all 1

@@ -34,7 +34,7 @@ pub tells-status :
 tells-status alike bytes text status t =
     closes-status (account_of bytes).end t.last status t.closes ∙ ap status_where (alike bytes)
 
--- what is told of a source's stream
+-- what is reported of a source's stream
 pub inspects-source :
     (alike : EndsAlike) (held : Option (List ℕ)) (text : List ℕ) (status : ℕ) (HasRun : List ℕ → Type 0)
     → OfSource held HasRun

@@ -53,7 +53,7 @@ rows-refused ls columns n before cause.Memory h = tt
 rows-refused ls columns n before cause.CellTooHeavy h = heavy-any ls columns n h
 rows-refused ls columns n before _ h = absurd h
 
--- the rows that were added are taken like those before
+-- the rows that were added are accepted like those before
 pub taken-rows :
     (ls : Roses Layout) (columns old new : List (List Datum)) (n : ℕ) → new ≡ old ++ rows_in n columns
     → AreFit ls columns n

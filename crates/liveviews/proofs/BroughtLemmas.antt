@@ -1,4 +1,4 @@
--- What the batch of an event brings.
+-- What the batch of an event adds.
 use Rattle.std.proofs.Common.{◌≡◌, ℕ, List, ◌++◌, Some, length, refl, ap, sym, subst, ◌∙◌, append_assoc}
 use Rattle.std.specs.Option.{IsSomeAnd}
 use Rattle.std.specs.Prelude.{Option, Vec}
@@ -59,7 +59,7 @@ brings none knows st rows new rest columns n body typed c =
           batch-refused knows st rows new rest (cells_in columns.items) n body t.0 k t.1 h c;
     }
 
--- the rows of the batch are taken with the others
+-- the rows of the batch are accepted with the others
 
 pub brought-reached :
     (s : Story) (f : FeedParts) (rows all : List (List Datum)) (b : Batch) (rest : List ℕ) → Brings s f rows b rest
@@ -81,7 +81,7 @@ brought-refused s f rows b rest before c br size refused =
     (subst (λ (ls : Roses Layout). RefusesBatch ls (batch_rows b) (length rows) c) br.layouts
     (subst (λ (n : ℕ). RefusesBatch (layouts_in b.columns.items) (batch_rows b) n c) size refused))
 
--- what is kept beside the rows
+-- what is stored with the rows
 pub brought-kept :
     (s : Story) (f : FeedParts) (rows : List (List Datum)) (b : Batch) (rest : List ℕ) (before after : BufferedBatches)
     → Brings s f rows b rest

@@ -1,4 +1,4 @@
--- What is kept beside the rows.
+-- What is stored with the rows.
 use Rattle.std.proofs.Common.{◌≡◌, ℕ, zero, suc, ◌+◌, ◌<◌, ◌≤◌, List, [], ◌∷◌, ◌++◌, length, drop, get_or, refl, ap, sym, subst, ◌∙◌, arith, append-nil, All, length-append}
 use Rattle.std.specs.Prelude.{map, Option, None, Some}
 use Rattle.std.proofs.lemmas.List.{drop_all, drop_more, length-map}
@@ -28,7 +28,7 @@ use Rattle.stream_writer.specs.Weights.{IsLightBatch, WeighsAs}
 use Rattle.liveviews.specs.declared.recasting.buffered_batches.BufferedBatches.{BufferedBatches}
 use Rattle.liveviews.proofs.BatchLemmas.{rows_from-length}
 
--- the columns from one on: what is left to say
+-- the columns from one on: what remains to be shown
 abbrev pub Rest : List CheckedColumn → ℕ → Type 0
 Rest columns i = All HoldsCells (drop i columns) → All HoldsCells columns
 

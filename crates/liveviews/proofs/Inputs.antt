@@ -75,12 +75,12 @@ begins none law f t shows no-rows no-batches input =
       kept-so-none s.schema t no-batches,
     )
 
--- A whole input is a piece behind which nothing comes.
+-- A whole input is a piece after which nothing comes.
 pub taken-whole : (s : Story) (f : FeedParts) (t : BufferedBatches) (input : List ℕ) → HasConsumed s f t input
     → HasConsumed s f t (input ++ [])
 taken-whole s f t input h = subst (HasConsumed s f t) (sym (append-nil input)) h
 
--- what is left of a piece, as the code has it
+-- the rest of a piece, as the code has it
 pub taken-rest : (s : Story) (f : FeedParts) (t : BufferedBatches) (bytes later : List ℕ) (n : ℕ)
     → HasConsumed s f t (drop n bytes ++ later)
     → HasConsumed s f t (take (length bytes - n) (drop n bytes) ++ later)
@@ -94,13 +94,13 @@ pub no-bytes : (bytes : List ℕ) → length bytes ≤ 0 → bytes ≡ []
 no-bytes [] none = refl
 no-bytes (b ∷ bs) none = absurd (omega (arith, none))
 
--- Nothing is left of a piece.
+-- Nothing remains of a piece.
 pub taken-all : (s : Story) (f : FeedParts) (t : BufferedBatches) (bytes later : List ℕ) → length bytes ≤ 0
     → HasConsumed s f t (bytes ++ later) → HasConsumed s f t later
 taken-all s f t bytes later none h =
     subst (λ (xs : List ℕ). HasConsumed s f t (xs ++ later)) (no-bytes bytes none) h
 
--- the same of bytes that are read of a source
+-- the same of bytes that are read from a source
 pub source-more :
     (f new : FeedParts) (t after : BufferedBatches) (piece : List ℕ)
     → ((s : Story) (later : List ℕ) → HasConsumed s f t (piece ++ later) → HasConsumed s new after later) → (bytes : List ℕ)
@@ -187,7 +187,7 @@ ends-so :
 ends-so tells keeps t [] b begun = subst (EndsHere (retained_in t) []) (sym (after-none t)) (ends-between t b)
 ends-so tells keeps t (x ∷ xs) b begun = ends-within tells keeps t (x ∷ xs) (omega arith) b begun
 
--- where the input of a feed ends that goes on
+-- how the input ends of a feed that goes on
 goes-ends :
     (tells : PartialReports) (keeps : PartialIsHeld) (s : Story) (f : FeedParts) (rows : List (List Datum))
     → (g : GoesOn s f rows [])

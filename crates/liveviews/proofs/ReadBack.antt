@@ -80,7 +80,7 @@ header-read known rest ds body bytes (header.Dictionary d) read later = values-r
 header-read known rest ds body bytes (header.Batch head) read later = rows-read known _ (rest ds) read (later ds)
 header-read known rest ds body bytes header.End read later = read
 
--- a message brings a schema that was read, or none
+-- a message has a schema that was read, or none
 brings-read : (known brought : Option (List (Rose Entry))) (h : Header) → IsRead known → Brings known brought h
     → IsRead (schema_after known brought)
 brings-read known brought header.Schema read b =
@@ -137,7 +137,7 @@ all-read : (message : MessageLaw) (bytes : List ℕ) → IsRead (story_of bytes)
 unfolding story_of
 all-read message bytes = story-read message (length bytes) nothing_known [] bytes tt
 
--- what the laws of reading and writing say of it
+-- what the laws of reading and writing give for it
 pub record Laws : Type 0 where
   pub message : MessageLaw
   pub fit : ColumnsFit

@@ -61,7 +61,7 @@ no-device fault.AfterEnd e = absurd (cc)
 no-device fault.Truncated e = absurd (cc)
 no-device fault.Memory e = absurd (cc)
 
--- a stream that isn't taken
+-- a stream that isn't accepted
 pub refused-stops : (old : Sunk) (c : Cause) (s : Story) → Refuses s c → Stops old old c 0 s
 refused-stops old cause.Memory s h = inl (untouched old)
 refused-stops old cause.Device s (f, named, stands) = absurd (no-device f named)
@@ -77,7 +77,7 @@ written-table law old new answer input fields rows means taken writes =
 
 pub ruleset recasts = (refused-stops, written-table)
 
--- the same of what was read of a source
+-- the same of what was read from a source
 pub put-refused :
     (old : Sunk) (input : List ℕ) (read : Result Table Cause) (c : Cause) → read ≡ Err c → IsRead read input
     → Stops old old c 0 (story_of input)

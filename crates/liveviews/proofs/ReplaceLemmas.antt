@@ -47,7 +47,7 @@ failed-writes old new fault whole put = record {
   device = let counted = put.counted in (λ d same. omega (arith, counted, same), λ h. tt);
 }
 
--- It took all of the stream, and could not be placed.
+-- It took all of the stream, and could not replace the old file.
 pub unplaced-ends :
     (held read : Option (List ℕ)) (start old new thrown : Sunk) (n : ℕ) (fault : DeviceFault)
     (not_created : Option FileFault) → HoldsFile held read → StreamsSource read start thrown (Ok n)
@@ -69,7 +69,7 @@ unplaced-ends held read start old new thrown n fault not_created holds streams p
       },
     ))))
 
--- It was thrown away.
+-- It was discarded.
 pub thrown-ends :
     (held read : Option (List ℕ)) (start old new thrown : Sunk) (fault : SourceFault) (not_created : Option FileFault)
     (path : Refusal) → start ≡ old → HoldsFile held read → StreamsSource read start thrown (Err fault) → new ≡ old

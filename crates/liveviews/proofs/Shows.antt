@@ -30,7 +30,7 @@ use Rattle.liveviews.proofs.Accounts.{finish-fault, finish-valid, gave, gives-fa
 pub remains-fresh : (f : FeedParts) (input : List ℕ) → Shows f (fresh None) → Remains (account_of input) f input
 remains-fresh f input shows = record { lines = []; state = fresh None; shows = shows; tells = refl }
 
--- a push was taken
+-- a push was accepted
 pub remains-step :
     (law : PushKeeps) (a : Account) (old new : FeedParts) (bytes later : List ℕ) (f : Fed)
     → ((t : FeedState) → Shows old t → Gives t bytes (Ok (seen f)))
@@ -91,7 +91,7 @@ remains-valid law alike f u answer input r =
     ended-valid input last alike
     (at-end law (account_of input) f r ∙ ap (λ m. mapped (λ u. last) m) valid.1)
 
--- a fault of the account stands in the stream
+-- a fault of the account is one of the stream
 pub fault-stands : (alike : EndsAlike) (input : List ℕ) (e : ShowFault) → IsFault (account_of input) e
     → IsShown (Err e) input
 fault-stands alike input (show.Stream f) (inl memory) = inl memory
@@ -102,7 +102,7 @@ fault-stands alike input (show.Stream f) (inr stands) =
 fault-stands alike input (show.Source f) h = tt
 fault-stands alike input (show.Print f) h = tt
 
--- what came of the whole of a source
+-- the result for the whole of a source
 pub passes-shown :
     (alike : EndsAlike) (held : Option (List ℕ)) (f : FeedParts) (e : ShowFault) → OfSource held (HasPassed f (Err e))
     → OfSource held (IsShown (Err e))
@@ -155,7 +155,7 @@ pub shows-file :
 shows-file content path source u holds shown =
     record { path = path; input = shown.input; read = holds shown.input shown.read; valid = shown.so }
 
--- Some bytes are those that a source holds.
+-- These are the bytes that a source holds.
 pub some-source : (held : Option (List ℕ)) (P : List ℕ → Type 0) → ((input : List ℕ) → P input) → OfSource held P
 some-source None P all = record { input = []; read = tt; so = all [] }
 some-source (Some bytes) P all = record { input = bytes; read = refl; so = all bytes }

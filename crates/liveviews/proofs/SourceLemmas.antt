@@ -1,4 +1,4 @@
--- What is so of bytes that are read of a source, piece by piece.
+-- What is so of bytes that are read from a source, piece by piece.
 use Rattle.std.proofs.Common.{
   ◌≡◌,
   ℕ,
@@ -38,7 +38,7 @@ consumes-more (Some xs) (Some ys) None bytes piece before now = absurd now
 consumes-more (Some xs) (Some ys) (Some zs) bytes piece before now =
     before ∙ ap (λ v. bytes ++ v) now ∙ sym (append_assoc bytes piece zs)
 
--- the bytes that are left, where that is told
+-- the remaining bytes, where they are known
 abbrev left_of : Option (List ℕ) → List ℕ
 left_of None = []
 left_of (Some xs) = xs
@@ -77,7 +77,7 @@ read-all held left P Q r end goes =
       so = goes r.bytes r.so;
     }
 
--- Enough was read to say it, whatever is left.
+-- Enough was read to say it, whatever remains.
 pub read-enough :
     (held left : Option (List ℕ)) (P Q : List ℕ → Type 0) → OfRead held left P
     → ((bytes later : List ℕ) → P bytes → Q (bytes ++ later)) → OfSource held Q
@@ -87,7 +87,7 @@ read-enough held left P Q r goes = record {
   so = goes r.bytes (left_of left) r.so;
 }
 
--- A read that failed took nothing.
+-- A read that failed read nothing.
 pub kept-consumes :
     (old kept new : Option (List ℕ)) (piece : List ℕ) → Keeps old kept → Consumes kept new piece
     → Consumes old new piece
@@ -96,7 +96,7 @@ kept-consumes (Some xs) None new piece same took = absurd same
 kept-consumes (Some xs) (Some ys) new piece same took =
     subst (λ (v : List ℕ). Consumes (Some v) new piece) same took
 
--- Bytes that are read into a part of a room come behind those before it.
+-- Bytes that are read into a part of a buffer come after those before it.
 pub consumes-part :
     (held old new : Option (List ℕ)) (room part : List ℕ) (from k n : ℕ) → from ≤ length room → n ≤ length part
     → Consumes old new (take n part) → Consumes held old (take from room)
@@ -112,7 +112,7 @@ consumes-part held old new room part from k n h few took before =
     subst (λ (xs : List ℕ). Consumes held new xs) (sym first)
     (consumes-more held old new (take from room) (take n part) before took)
 
--- A read of no bytes came to the source's end.
+-- A read of no bytes found the source's end.
 pub read-end :
     (held old new : Option (List ℕ)) (n : ℕ) (room : List ℕ) (P Q : List ℕ → Type 0) → OfRead held old P
     → Consumes old new (take n room) → n ≡ 0 → IsAtEnd new → ((bytes : List ℕ) → P bytes → Q bytes) → OfSource held Q
@@ -122,7 +122,7 @@ read-end held old new n room P Q r took none end goes =
     (read-more held old new (take n room) P P r took
     (λ bytes so. subst P (sym (ap (λ v. bytes ++ v) nothing ∙ append-nil bytes)) so)) end goes
 
--- What stands in a piece stands whatever is behind it.
+-- What holds of a piece holds whatever comes after it.
 pub read-stop :
     (held old new : Option (List ℕ)) (piece : List ℕ) (P Q : List ℕ → Type 0) → OfRead held old P
     → Consumes old new piece
@@ -139,7 +139,7 @@ pub source-weaker :
 source-weaker held P Q source goes =
     record { input = source.input; read = source.read; so = goes source.input source.so }
 
--- What is told of a source is told of the file that it is.
+-- What is known of a source is known of its file.
 pub inspects-file :
     (file source : Option (List ℕ)) (text : List ℕ) (status : ℕ) → HoldsFile file source
     → InspectsFile source text status → InspectsFile file text status

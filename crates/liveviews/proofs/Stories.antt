@@ -1,4 +1,4 @@
--- What an event of a feed tells of its stream.
+-- What an event of a feed says of its stream.
 use Rattle.std.proofs.Common.{
   ◌≡◌,
   ◌⊎◌,
@@ -86,7 +86,7 @@ use Rattle.liveviews.proofs.Tables.{after-by}
 use Rattle.liveviews.specs.Steps.{AreConsumedSo, Ended, GoesOn, HasHeavyRow, IsOpen, Reached, ReadsAs, Refuses}
 use Rattle.liveviews.specs.Taken.{AreAccepted}
 
--- a fault that stands in a stream
+-- a fault of a stream
 pub stands-refuses : (st : Story) (f : StreamFault) → FailsWith st.end f → Refuses st (cause_of f)
 stands-refuses st fault.Memory h = tt
 stands-refuses st fault.NoContinuation h = (fault.NoContinuation, refl, h)
@@ -167,7 +167,7 @@ after-more t held piece =
     ∙ ap (λ xs. (t.bytes ++ held) ++ xs) (take-length piece) ∙ append_assoc t.bytes held piece
     ∙ ap (λ xs. t.bytes ++ xs) (sym (take-length (held ++ piece))))
 
--- After the end mark a feed takes nothing.
+-- After the end mark a feed accepts nothing.
 closed-some : (piece : List ℕ) → 0 < length piece → closed piece ≡ Err (one fault.AfterEnd)
 closed-some [] some = absurd (omega (arith, some))
 closed-some (b ∷ bs) some = refl
@@ -184,7 +184,7 @@ marked-gives :
 marked-gives t piece g some marked is =
     let both : Err (one fault.AfterEnd) ≡ Ok g = sym (marked-shut t piece some marked) ∙ is in absurd (cc)
 
--- what a feed that goes on makes of a piece is what its last message leaves of all bytes since
+-- what a feed that goes on gives for a piece is what follows its last message in all bytes since
 joined-gives :
     (joins : PartialJoins) (t : FeedState) (held piece : List ℕ) (m : Reading Given)
     → gives t held ≡ Ok (given (length held) None)
@@ -251,7 +251,7 @@ push-refused joins stay law st rows old piece later f some answer r =
       | inr stands ↦ stands-refuses st f stands
     ]
 
--- A push gave this event, of so many of these bytes.
+-- A push gave this event, and used n of these bytes.
 pub record Came (old new : FeedParts) (bytes : List ℕ) (used : ℕ) (o : Option Event) : Type 0 where
   pub gave : (t : FeedState) → Shows old t → gives t bytes ≡ Ok (given used o)
   pub after : (t : FeedState) → Shows old t → Shows new (after_push t bytes (Ok (given used o)))
@@ -318,7 +318,7 @@ pushed-open old new bytes f (t, shows, goes) after = (
       ∙ unbroken-after t.condition (option_map event_seen f.event) goes,
 )
 
--- An event came of a stream of which these rows were taken, and then these bytes come.
+-- A stream of which these rows were read gave an event, and these bytes follow.
 pub record Comes (st : Story) (rows : List (List Datum)) (new : FeedParts) (v : Event) (rest : List ℕ) : Type 0 where
   pub state : FeedState
   pub shows : Shows new state
@@ -467,7 +467,7 @@ end-reached st rows new rest typed c =
       known = sym (ap (λ x. x.known.schema) c.shows.stream) ∙ there.1;
     })
 
--- a batch of rows: what the stream tells, and the columns that it has
+-- a batch of rows: what the stream says, and the columns that it has
 pub record ReportsBatch (st : Story) (new : FeedParts) (rows got : List (List Datum)) (rest : List ℕ)
     (fields : List (Rose Entry)) : Type 0 where
   pub state : FeedState

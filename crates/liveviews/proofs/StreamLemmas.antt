@@ -1,4 +1,4 @@
--- Recasting in one pass: from a batch that came to what was put.
+-- Recasting in one pass: from a batch to what was put.
 use Rattle.std.proofs.Common.{◌≡◌, inl, inr, ℕ, ◌+◌, ◌-◌, ◌≤◌, Option, None, Some, Result, Err, List, [], ◌++◌, All, length, take, drop, length-drop, map, refl, ap, sym, subst, ◌∙◌, arith, append-nil, append_assoc}
 use Rattle.std.proofs.lemmas.List.{length-append, length-map, take_all}
 use Rattle.std.proofs.lemmas.List.Elements.{All-append, All-nil}
@@ -71,14 +71,14 @@ use Rattle.liveviews.proofs.SourceLemmas.{read-enough}
 use Rattle.liveviews.proofs.Stories.{between-goes}
 use Rattle.liveviews.proofs.Tables.{fresh-between, row-fits, taken-none}
 
--- what a fault says of a table that is not whole, said of the rows so far
+-- what a fault says of a table that is not whole, for the rows so far
 pub stops-here : (start now : Sunk) (fault : WriteFault) (fs : List (Rose NamedType)) (rows : List (List Datum))
     → StopsIn start now fault fs [] rows → Writes start now (Err fault) (canon fs rows)
 stops-here start now fault fs rows stops =
     subst (λ (rs : List (List Datum)). Writes start now (Err fault) (canon fs rs)) (append-nil rows)
     (stops [] (All-nil (IsRow fs)))
 
--- what is out between two batches
+-- what was put between two batches
 pub beginning-of : (start now : Sunk) (s : Story) (o : Option TableWriter) (rows : List (List Datum))
     → HasWritten start now s o rows → PutsBeginning start now (written_by o) s
 beginning-of start now s None rows h = inl (record { same = h.1; none = refl })
@@ -105,7 +105,7 @@ refused-within old new n cause.Memory s b h = b
 refused-within old new n cause.Device s b (f, named, stands) = absurd (no-device f named)
 refused-within old new n c s b h = (b, h)
 
--- the columns of the stream, by the batch that came of it
+-- the columns of the stream, by its batch
 
 some-is : (a b : List (Rose Entry)) → Some a ≡ Some b → a ≡ b
 some-is a b e = ap (λ (o : Option (List (Rose Entry))). get-or-none o) e
@@ -123,7 +123,7 @@ brings-knows s f rows b rest br = record {
   lacks = λ none_there. let both : Some br.fields ≡ None = sym br.schema ∙ none_there in absurd (cc);
 }
 
--- a batch that was brought and weighed may come to the writer
+-- a batch that was read and weighed may be given to the writer
 
 module _ (law : LogicalTrees) (fits : NarrowFits) (holds : NarrowHoldsEach) (weighs : NarrowRowWeighs) where
   narrow-weight : (entries : List (Rose Entry)) (row : List Datum)
@@ -250,7 +250,7 @@ complete-accepted s f rows complete =
     let cells : s.rows ≡ rows = ap (λ x. x.rows) complete.tells ∙ append-nil rows in
     subst (λ (rs : List (List Datum)). AreConsumedSo s.schema rs) (sym cells) complete.taken
 
--- what is left of a piece, as the code has it
+-- the rest of a piece, as the code has it
 pub streamed-rest :
     (start now : Sunk) (s : Story) (f : FeedParts) (r : Streaming) (bytes later : List ℕ) (n : ℕ)
     → HasStreamed start now s f r (drop n bytes ++ later)
@@ -261,14 +261,14 @@ streamed-rest start now s f r bytes later n h =
     take_all (length bytes - n) (drop n bytes) (omega (arith, size)) in
     subst (λ (xs : List ℕ). HasStreamed start now s f r (xs ++ later)) (sym whole) h
 
--- Nothing is left of a piece.
+-- Nothing remains of a piece.
 pub streamed-all :
     (start now : Sunk) (s : Story) (f : FeedParts) (r : Streaming) (bytes later : List ℕ) → length bytes ≤ 0
     → HasStreamed start now s f r (bytes ++ later) → HasStreamed start now s f r later
 streamed-all start now s f r bytes later none_there h =
     subst (λ (xs : List ℕ). HasStreamed start now s f r (xs ++ later)) (no-bytes bytes none_there) h
 
--- the same of bytes that are read of a source
+-- the same of bytes that are read from a source
 
 pub streamed-more :
     (start old new : Sunk) (f after : FeedParts) (r next : Streaming) (piece : List ℕ)
@@ -303,7 +303,7 @@ pub streamed-beginning : (start now : Sunk) (s : Story) (f : FeedParts) (r : Str
     → HasStreamed start now s f r rest → PutsBeginning start now (written_by r.writer) s
 streamed-beginning start now s f r rest h = beginning-of start now s r.writer h.rows h.written
 
--- a source that can't be read further
+-- a source that can't be read to its end
 pub unread-stops :
     (held left : Option (List ℕ)) (start now : Sunk) (f : FeedParts) (r : Streaming) (fault : FileFault)
     → OfRead held left (λ bytes. (later : List ℕ) → HasStreamed start now (story_of (bytes ++ later)) f r later)
@@ -378,7 +378,7 @@ none-stops start old new s o rows c n is before stops =
     subst (λ (x : Option TableWriter). HasWritten start old s x rows) is before in
     subst (λ (first : Sunk). StopsWithin first new c n s) none_there.1 stops
 
--- no room to read into
+-- no buffer to read into
 pub unread-first :
     (held : Option (List ℕ)) (start : Sunk) (f : FeedParts) (r : Streaming)
     → ((input : List ℕ) → HasStreamed start start (story_of input) f r input)
@@ -387,7 +387,7 @@ unread-first held start f r begins =
     let some = some-content held in
     record { input = some.0; read = some.1; so = streamed-beginning start start _ f r some.0 (begins some.0) }
 
--- what a batch that came is for the writer
+-- what a batch that was read is for the writer
 module _ (law : LogicalTrees) (fits : NarrowFits) (holds : NarrowHoldsEach) (weighs : NarrowRowWeighs) where
   pub brought-comes :
       (s : Story) (f : FeedParts) (entries : List (Rose Entry)) (rows : List (List Datum)) (b : Batch) (rest : List ℕ)

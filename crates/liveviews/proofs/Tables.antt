@@ -63,7 +63,7 @@ module _ (trees : LogicalTrees) (fits : NarrowFits) (holds : NarrowHoldsEach) (w
     sound = λ k d below. row-fits fields _ (taken.each k d below);
   }
 
--- what was told of a stream of these columns
+-- what was reported of a stream of these columns
 complete-schema :
     (s : Story) (f : FeedParts) (rows : List (List Datum)) (o : Option (List (Rose Entry)))
     → ((t : FeedState) → Shows f t → o ≡ (retained_in t).known.schema)
@@ -84,7 +84,7 @@ complete-means s f rows cells fs fields shown named same complete = record {
   cells = ap (λ x. x.rows) complete.tells ∙ append-nil rows ∙ sym same;
 }
 
--- what was taken of it
+-- what was read from it
 pub complete-taken :
     (s : Story) (f : FeedParts) (rows : List (List Datum)) (fs : List (Rose Entry))
     → ((t : FeedState) → Shows f t → Some fs ≡ (retained_in t).known.schema)
@@ -93,7 +93,7 @@ complete-taken s f rows fs shown complete =
     subst (λ (o : Option (List (Rose Entry))). AreConsumedSo o rows) (complete-schema s f rows (Some fs) shown complete)
     complete.taken
 
--- what is kept beside it
+-- what is stored with that
 pub complete-kept :
     (s : Story) (f : FeedParts) (rows : List (List Datum)) (fs : List (Rose Entry)) (t : BufferedBatches)
     → ((u : FeedState) → Shows f u → Some fs ≡ (retained_in u).known.schema)
@@ -120,7 +120,7 @@ pub taken-none : (o : Option (List (Rose Entry))) → AreConsumedSo o []
 taken-none None = refl
 taken-none (Some fields) = record { few = omega arith; each = λ k d below. absurd (omega (arith, below)) }
 
--- the end of the input, where nothing is left
+-- the end of the input, where nothing remains
 pub nothing-tells : (k : Retained) (bytes : List ℕ) → length bytes ≤ 0
     → rest_story k bytes ≡ ends k.known (at_input_end k.known.schema)
 unfolding story

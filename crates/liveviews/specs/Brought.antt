@@ -1,4 +1,4 @@
--- What the next batch of a stream brings.
+-- What the next batch of a stream adds to what was read.
 use Rattle.std.specs.Prelude.{◌≡◌, ℕ, ◌++◌, List, Some, length}
 use Rattle.values.specs.Datum.{Datum}
 use Rattle.values.specs.Rose.{Rose}
@@ -15,8 +15,8 @@ use Rattle.liveviews.specs.Refused.{RefusesBatch}
 use Rattle.liveviews.specs.Steps.{Reached, Refuses}
 use Rattle.liveviews.specs.Taken.{AreAccepted}
 
--- These rows of the stream were taken, then this batch of its columns came, and these bytes come. Its rows can be taken
--- with the others, or the stream is refused as they are.
+-- These rows of the stream were read, then this batch of its columns came, and these bytes follow. Its rows can be
+-- added to the others, or the stream is refused for the cause that they are refused for.
 pub record Brings (s : Story) (f : FeedParts) (rows : List (List Datum)) (b : Batch) (rest : List ℕ) : Type 0 where
   pub fields : List (Rose Entry)
   pub schema : s.schema ≡ Some fields

@@ -1,4 +1,4 @@
--- What holds of the batches that were taken of a stream.
+-- What holds of the batches that were read from a stream.
 use Rattle.std.specs.Prelude.{◌≡◌, ℕ, ◌<◌, ◌≤◌, All, List, length, Option, None, Some}
 use Rattle.values.specs.Datum.{Datum}
 use Rattle.values.specs.Rose.{Rose, Roses}

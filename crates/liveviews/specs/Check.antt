@@ -13,7 +13,7 @@ use Rattle.view_config.specs.declared.faults.ConfigFault.{ConfigFault}
 abbrev pub MeansConfig : List ℕ → Config → Type 0
 MeansConfig bytes c = text_means bytes ≡ Ok c
 
--- A cause for which bytes mean none: they aren't UTF-8, or a fault stands in the text, or memory ran out.
+-- A cause for which bytes mean none: they aren't UTF-8, the text has this fault, or memory was refused.
 abbrev pub RefusesConfig : List ℕ → Cause → Type 0
 RefusesConfig bytes c = ((c ≡ cause.NotToml) × ¬ (IsUtf8 bytes))
     ⊎ ((f : ConfigFault) × (c ≡ cause_of f) × Fails f (text_means bytes))

@@ -1,4 +1,4 @@
--- What is printed of a whole stream: the lines of its messages, and then that of its end or of a fault that stands.
+-- What is printed of a whole stream: the lines of its messages, and then that of its end or of one of its faults.
 use Rattle.std.specs.Prelude.{◌≡◌, ℕ, List, [], ◌++◌, None, Ok, Err, codes, flat_map}
 use Rattle.std.specs.Fmt.{decimal}
 use Rattle.values.specs.Causes.{name_of, number_of}
@@ -27,7 +27,7 @@ abbrev pub last_line : Condition → List ℕ
 last_line condition.Opened = codes "end of input" ++ newline
 last_line _ = []
 
--- the last line where all bytes are consumed, if the input may end there
+-- the last line where all bytes were consumed, if the input may end there
 abbrev pub last_in : FeedState → Reading (List ℕ)
 last_in s = mapped (λ u. last_line s.condition) (finishing_when s.condition (stream_in (retained_in s)))
 
@@ -47,7 +47,7 @@ abbrev pub Closes : Reading (List ℕ) → List ℕ → ℕ → Type 0
 Closes (Ok last) text status = (text ≡ last) × (status ≡ 0)
 Closes (Err fs) text status = (f : StreamFault) × IsAmong fs f × (text ≡ refusal_line f) × (status ≡ 1)
 
--- 0 where no fault stands, else 1
+-- 0 where there is no fault, else 1
 abbrev pub status_where : {X : Type 0} → Reading X → ℕ
 status_where (Ok x) = 0
 status_where (Err fs) = 1

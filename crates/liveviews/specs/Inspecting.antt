@@ -22,14 +22,14 @@ condition_when ended = if ended then condition.Ended else condition.Opened
 abbrev pub IsOpen : Inspection → Type 0
 IsOpen i = (s : FeedState) × Shows i.feed s × (s.condition ≡ condition_when i.ended)
 
--- The lines of an account so far were written, and these bytes are left.
+-- The lines of an account so far were written, and these bytes remain.
 pub record IsLeft (a : Account) (i : Inspection) (rest : List ℕ) : Type 0 where
   pub state : FeedState
   pub shows : Shows i.feed state
   pub goes : state.condition ≡ condition_when i.ended
   pub tells : a ≡ after_lines (string_bytes i.text) (account_in (transcript state rest))
 
--- All lines before it were written, and then this fault stands.
+-- All lines before it were written, and then comes this fault.
 pub record StopsAt (a : Account) (text : List ℕ) (f : StreamFault) : Type 0 where
   pub whole : text ≡ a.lines
   pub stands : FailsWith a.end f
@@ -37,7 +37,8 @@ pub record StopsAt (a : Account) (text : List ℕ) (f : StreamFault) : Type 0 wh
 abbrev pub Breaks : Account → List ℕ → StreamFault → Type 0
 Breaks a text f = (f ≡ fault.Memory) ⊎ StopsAt a text f
 
--- What came of all messages of an input: their lines were written and nothing is left, or a fault stands behind them.
+-- The result of consuming all messages of an input: their lines were written and nothing remains, or a fault comes
+-- after them.
 abbrev pub HasConsumed : Inspection → Result (Unit {0}) StreamFault → List ℕ → Type 0
 HasConsumed i (Ok u) input = IsLeft (account_of input) i []
 HasConsumed i (Err f) input = Breaks (account_of input) (string_bytes i.text) f

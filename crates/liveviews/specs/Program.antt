@@ -54,7 +54,7 @@ abbrev pub IsRefused : Refusal → Type 0
 IsRefused refusal.WrongUse = ⊥
 IsRefused _ = Unit {0}
 
--- a file that can't be read, or memory was refused
+-- a file that can't be read, or refused memory
 abbrev pub IsUnreadable : Refusal → Type 0
 IsUnreadable refusal.WrongUse = ⊥
 IsUnreadable (refusal.Refused c) = c ≡ cause.Memory
@@ -67,8 +67,8 @@ IsRefusedAs kind r =
     ((kind ≡ kinds.OutOfMemory) × (r ≡ refusal.Refused cause.Memory))
     ⊎ ((kind ≢ kinds.OutOfMemory) × (r ≡ refusal.WrongUse))
 
--- A cause that the command names: memory was refused outside of recasting, or it stands in a configuration, or
--- recasting stopped for it, with nothing put where what it wrote was thrown away.
+-- A cause that the command names: memory was refused outside of recasting, or a configuration has this fault, or
+-- recasting stopped for it, with nothing put where what it wrote was discarded.
 abbrev pub StopsFor : Option (List ℕ) → Sunk → Sunk → Option FileFault → Cause → Type 0
 StopsFor held old new not_created c =
     ((c ≡ cause.Memory) × (new ≡ old)) ⊎ (RefusesFile held c × (new ≡ old)) ⊎ ((c ≡ cause.Memory)
@@ -116,7 +116,7 @@ status_of (refusal.CannotRead path) = 1
 status_of (refusal.CannotWrite path) = 1
 status_of (refusal.Refused c) = 1
 
--- A file was inspected, no fault stands in it, and nothing was put. These are its lines.
+-- A file was inspected, its stream has no fault, and nothing was put. These are its lines.
 abbrev pub IsInspected : Option (List ℕ) → Sunk → Sunk → List ℕ → Type 0
 IsInspected held old new text = (new ≡ old) × InspectsFile held text 0
 
@@ -138,20 +138,20 @@ abbrev pub IsChecked : Option (List ℕ) → Sunk → Sunk → List ℕ → Type
 IsChecked held old new text =
     (new ≡ old) × ((feeds : ℕ) × (views : ℕ) × ChecksFile held feeds views × (text ≡ counts_of feeds views))
 
--- What came of a command over a file that holds `held`: no fault stands in it, or all of the canonical stream of its
--- table was put, or it has a configuration. This text says so.
+-- The outcome of a command over a file that holds `held`: its stream has no fault, or all of the canonical stream of
+-- its table was put, or it has a configuration. This text says so.
 abbrev pub Comes : Option (List ℕ) → Sunk → Sunk → List ℕ → Type 0
 Comes held old new text = IsInspected held old new text ⊎ IsRecast held old new text ⊎ IsChecked held old new text
 
--- A file was read, this came of it, and what says so was printed.
+-- A file was read with this outcome, and what says so was printed.
 pub record IsDone (content : List ℕ → Option (List ℕ)) (old new : Sunk) (before after : Option (List ℕ)) : Type 0 where
   pub path : List ℕ
   pub text : List ℕ
   pub comes : Comes (content path) old new text
   pub printed : Appends before after text
 
--- What status 0 means: of `run` and `live` nothing, of `show` that no fault stands in a stream that was read, and else
--- that something came of a file.
+-- What status 0 means: of `run` and `live` nothing, of `show` that a stream was read that has no fault, and of the
+-- others that a file was read with an outcome.
 abbrev pub Succeeds :
     {Z : Type 0} → List (String Z) → (List ℕ → Option (List ℕ)) → Sunk → Sunk → Option (List ℕ) → Option (List ℕ)
     → Type 0

@@ -14,7 +14,8 @@ use Rattle.stream_writer.specs.declared.faults.WriteFault.TheVariants as write
 use Rattle.liveviews.specs.Steps.{Refuses}
 use Rattle.liveviews.specs.declared.recasting.whole.RecastFault.{RecastFault}
 
--- The stream means a table, this came of writing the table's canonical stream, and that stream means the table too.
+-- The stream means a table, this is the answer of writing the table's canonical stream, and that stream means the table
+-- too.
 pub record WritesTable (old new : Sunk) (answer : Result ℕ WriteFault) (s : Story) : Type 0 where
   pub fields : List (Rose NamedType)
   pub rows : List (List Datum)

@@ -11,7 +11,7 @@ use Rattle.values.specs.declared.causes.Cause.TheVariants as cause
 use Rattle.values.specs.declared.faults.StreamFault.{StreamFault}
 use Rattle.body_writer.specs.Heavy.{IsHeavy}
 
--- a stream fault of this cause stands
+-- the stream has a fault of this cause
 abbrev pub HasFaultOf : {X : Type 0} → Reading X → Cause → Type 0
 HasFaultOf m c = (f : StreamFault) × (cause_of f ≡ c) × FailsWith m f
 

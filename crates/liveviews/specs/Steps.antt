@@ -22,28 +22,28 @@ use Rattle.liveviews.specs.Buffered.{IsBufferedSo, buffered_rows}
 use Rattle.liveviews.specs.declared.recasting.table.Table.{Table}
 use Rattle.liveviews.specs.declared.recasting.buffered_batches.BufferedBatches.{BufferedBatches}
 
--- the reading of the stream is these rows, and then the reading of these bytes after those of which this is kept
+-- the reading of the stream is these rows, and then the reading of these bytes in the state of this feed
 abbrev pub ReadsAs : Story → List (List Datum) → Retained → List ℕ → Type 0
 ReadsAs s rows k bytes = s ≡ after_rows rows (rest_story k bytes)
 
--- One of the rows that the stream tells is too heavy for its schema.
+-- One of the rows of the stream is too heavy for its schema.
 abbrev pub HasHeavyRow : Option (List (Rose Entry)) → List (List Datum) → Type 0
 HasHeavyRow None rows = ⊥
 HasHeavyRow (Some fields) rows = Any (IsHeavy (layouts_of fields)) rows
 
--- A stream is refused for this cause: a fault stands in it, it has too many rows, or one that is too heavy.
+-- A stream is refused for this cause: it has a fault of this cause, too many rows, or a row that is too heavy.
 abbrev pub Refuses : Story → Cause → Type 0
 Refuses s cause.Memory = Unit {0}
 Refuses s cause.TooManyRows = max_main_rows < length s.rows
 Refuses s cause.CellTooHeavy = HasHeavyRow s.schema s.rows
 Refuses s c = HasFaultOf s.end c
 
--- what was taken of the stream: no row before a schema
+-- what was read from the stream: no row before a schema
 abbrev pub AreConsumedSo : Option (List (Rose Entry)) → List (List Datum) → Type 0
 AreConsumedSo None rows = rows ≡ []
 AreConsumedSo (Some fields) rows = AreAccepted (layouts_of fields) rows
 
--- all rows of a stream were taken
+-- all rows of a stream were read
 abbrev pub IsConsumed : Story → Type 0
 IsConsumed s = AreConsumedSo s.schema s.rows
 
@@ -51,9 +51,9 @@ IsConsumed s = AreConsumedSo s.schema s.rows
 abbrev pub IsOpen : FeedParts → Type 0
 IsOpen f = (t : FeedState) × Shows f t × (is_broken t.condition ≡ false)
 
--- These rows of the stream were taken, its feed holds the beginning of the next message, and these bytes come.
+-- These rows of the stream were read, its feed holds the beginning of the next message, and these bytes follow.
 pub record GoesOn (s : Story) (f : FeedParts) (rows : List (List Datum)) (rest : List ℕ) : Type 0 where
-  -- behind the last message
+  -- the state after the last message
   pub state : FeedState
   pub held : List ℕ
   pub between : IsBetween state
@@ -62,7 +62,7 @@ pub record GoesOn (s : Story) (f : FeedParts) (rows : List (List Datum)) (rest :
   pub taken : AreConsumedSo s.schema rows
   pub tells : ReadsAs s rows (retained_in state) (held ++ rest)
 
--- These rows were taken, and then the end mark came, before these bytes.
+-- These rows were read, and then the end mark came, before these bytes.
 pub record Ended (s : Story) (f : FeedParts) (rows : List (List Datum)) (rest : List ℕ) : Type 0 where
   pub state : FeedState
   pub shows : Shows f state
@@ -80,7 +80,7 @@ abbrev pub OfEachReached : FeedParts → List ℕ → (Story → List (List Datu
 OfEachReached f piece holds =
     (s : Story) (rows : List (List Datum)) (later : List ℕ) → Reached s f rows (piece ++ later) → holds s rows later
 
--- The same of what was taken, and what is kept beside its rows is so.
+-- the same of what was read, and what is stored with its rows is right
 abbrev pub HasConsumed : Story → FeedParts → BufferedBatches → List ℕ → Type 0
 HasConsumed s f t rest = Reached s f (buffered_rows t) rest × IsBufferedSo s.schema t
 
@@ -91,7 +91,7 @@ pub record IsComplete (s : Story) (f : FeedParts) (rows : List (List Datum)) : T
   pub taken : AreConsumedSo s.schema rows
   pub tells : s ≡ after_rows rows (ends (retained_in state).known (at_input_end (retained_in state).known.schema))
 
--- What came of all messages of an input: they were taken, or it is refused.
+-- The result of consuming all messages of an input: they were accepted, or the stream is refused.
 abbrev pub HasConsumedAll : FeedParts → BufferedBatches → Result (Unit {0}) Cause → List ℕ → Type 0
 HasConsumedAll f t (Ok u) input = HasConsumed (story_of input) f t []
 HasConsumedAll f t (Err c) input = Refuses (story_of input) c

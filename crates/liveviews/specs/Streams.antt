@@ -42,7 +42,7 @@ pub record PutsFirst (old new : Sunk) (fault : WriteFault) (s : Story) : Type 0 
   pub begins : BeginsTable s entries rows
   pub writes : Writes old new (Err fault) (canon (map logical_field entries) rows)
 
--- No put failed, and nothing is out, or a beginning of the canonical stream of the first rows.
+-- No put failed, and nothing is put, or a prefix of the canonical stream of the first rows.
 abbrev pub PutsBeginning : Sunk → Sunk → ℕ → Story → Type 0
 PutsBeginning old new written s = IsUntouched old new written ⊎ PutsFirst old new (write.Memory written) s
 
@@ -51,7 +51,7 @@ StopsWithin old new cause.Memory written s = PutsBeginning old new written s
 StopsWithin old new cause.Device written s = PutsFirst old new (write.Device written) s
 StopsWithin old new c written s = PutsBeginning old new written s × Refuses s c
 
--- Where it succeeds, it does what `Recasts` says. Else the sink took a beginning of a canonical stream.
+-- Where it succeeds, it does what `Recasts` says. Else the sink took a prefix of a canonical stream.
 abbrev pub Streams : Sunk → Sunk → Result ℕ RecastFault → Story → Type 0
 Streams old new (Ok n) s = WritesTable old new (Ok n) s
 Streams old new (Err f) s = StopsWithin old new f.cause f.written s
@@ -64,7 +64,7 @@ StreamsSource held old new (Err source.Unreadable) =
 StreamsSource held old new (Err (source.Refused f)) = OfSource held (λ input. Streams old new (Err f) (story_of input))
 
 -- A new file took what was written while a source was read that holds `held`, up to a fault of this cause. It was
--- thrown away.
+-- discarded.
 pub record Discards (held : Option (List ℕ)) (old : Sunk) (c : Cause) : Type 0 where
   pub thrown : Sunk
   pub written : ℕ
@@ -76,14 +76,14 @@ abbrev pub written_by : Option TableWriter → ℕ
 written_by None = 0
 written_by (Some w) = w.written
 
--- These rows of the stream came to the writer. Before the first batch none is begun, and nothing is put.
+-- These rows of the stream were given to the writer. Before the first batch none is begun, and nothing is put.
 abbrev pub HasWritten : Sunk → Sunk → Story → Option TableWriter → List (List Datum) → Type 0
 HasWritten start now s None rows = (rows ≡ []) × (now ≡ start)
 HasWritten start now s (Some w) rows =
     (entries : List (Rose Entry)) × BeginsTable s entries rows × IsWriting start now (map logical_field entries) rows w
 
--- These rows of the stream were taken and written, its feed holds the beginning of the next message, and these bytes
--- come.
+-- These rows of the stream were read and written, its feed holds the beginning of the next message, and these bytes
+-- follow.
 pub record HasStreamed (start now : Sunk) (s : Story) (f : FeedParts) (r : Streaming) (rest : List ℕ) : Type 0 where
   pub rows : List (List Datum)
   pub reached : Reached s f rows rest
@@ -97,14 +97,14 @@ pub record KnowsSchema (s : Story) (f : FeedParts) : Type 0 where
   pub same : s.schema ≡ (retained_in state).known.schema
   pub lacks : s.schema ≡ None → Refuses s cause.NoSchema
 
--- This holds of each stream of which rows came to this writer, and whose schema the feed has.
+-- This holds of each stream whose rows were given to this writer, and whose schema the feed has.
 abbrev pub OfEachWritten : Sunk → FeedParts → Option TableWriter → (Sunk → Story → List (List Datum) → Type 0)
     → Type 0
 OfEachWritten now f w holds =
     (start : Sunk) (s : Story) (rows : List (List Datum)) → HasWritten start now s w rows → KnowsSchema s f
     → holds start s rows
 
--- This is the next batch of a stream whose rows before it came to the writer.
+-- This is the next batch of a stream whose rows before it were given to the writer.
 abbrev pub IsBrought : Sunk → FeedParts → Streaming → Batch → Type 0
 IsBrought now f r b =
     (start : Sunk) × (s : Story) × (rows : List (List Datum)) × (rest : List ℕ) × HasWritten start now s r.writer rows
@@ -116,12 +116,12 @@ OfEachBrought now f r b holds =
     (start : Sunk) (s : Story) (rows : List (List Datum)) (rest : List ℕ) → HasWritten start now s r.writer rows
     → r.rows ≡ length rows → Brings s f rows b rest → holds start s rest
 
--- This holds of each stream that was taken and written up to this piece, whatever bytes come after it.
+-- This holds of each stream that was read and written up to this piece, whatever bytes come after it.
 abbrev pub OfEachStreamed : Sunk → FeedParts → Streaming → List ℕ → (Sunk → Story → List ℕ → Type 0) → Type 0
 OfEachStreamed now f r piece holds =
     (start : Sunk) (s : Story) (later : List ℕ) → HasStreamed start now s f r (piece ++ later) → holds start s later
 
--- Of a piece these last bytes are left, and each such stream is taken and written up to them.
+-- These last bytes of a piece remain, and each such stream is read and written up to them.
 abbrev pub StreamsOn : Sunk → Sunk → FeedParts → Streaming → List ℕ → List ℕ → FeedParts → Streaming → Type 0
 StreamsOn old new feed streaming piece left feed-after streaming-after =
     OfEachStreamed old feed streaming piece

@@ -10,7 +10,8 @@ use Rattle.values.specs.declared.causes.Cause.TheVariants as cause
 use Rattle.schema_meta.specs.Rows.{row_at}
 use Rattle.body_writer.specs.Heavy.{HasHeavyRow, IsLight}
 
--- Rows that are taken have a cell a column, of the column's layout, and are not too heavy; and they are not too many.
+-- Rows that are accepted have a cell a column, of the column's layout, and are not too heavy; and they are not too
+-- many.
 pub record IsAcceptedRow (ls : Roses Layout) (row : List Datum) : Type 0 where
   pub held : HoldsEach ls (items_of row)
   pub light : IsLight ls row
@@ -19,11 +20,11 @@ pub record AreAccepted (ls : Roses Layout) (rows : List (List Datum)) : Type 0 w
   pub few : length rows ≤ max_main_rows
   pub each : All (IsAcceptedRow ls) rows
 
--- each of the first n rows can be taken
+-- each of the first n rows can be accepted
 abbrev pub AreFit : Roses Layout → List (List Datum) → ℕ → Type 0
 AreFit ls columns n = (k : ℕ) → k < n → IsAcceptedRow ls (row_at columns k)
 
--- why the first n rows of a batch were not taken
+-- why the first n rows of a batch were not accepted
 abbrev pub RefusesRows : Roses Layout → List (List Datum) → ℕ → Cause → Type 0
 RefusesRows ls columns n cause.Memory = Unit {0}
 RefusesRows ls columns n cause.CellTooHeavy = HasHeavyRow ls columns n

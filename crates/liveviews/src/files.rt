@@ -7,7 +7,7 @@ use std::fmt::Display;
 use std::io::{Error, ErrorKind, Read};
 use stream_writer::{DeviceFault, Sink};
 
-/// The path that stands for standard input where a file is read, and for standard output where one is written.
+/// The path that denotes standard input where a file is read, and for standard output where one is written.
 pub(crate) const STANDARD: &str = "-";
 
 /// Why a file could not be used.
@@ -48,8 +48,7 @@ impl From<AllocError> for FileFault {
 /// where a file is read, and standard output where one is written.
 ///
 /// As a [`Sink`] it writes the file that `create` named last. That file is made, or emptied, when the first bytes are
-/// put, so that a file to which nothing is put is left as it was. Where it can't be made, that put fails, and `fault`
-/// says why.
+/// put; a file to which nothing is put is left as it was. Where it can't be made, that put fails, and `fault` says why.
 pub trait Files: Sink {
     ghost use Rattle.std.specs.Prelude.{◌≡◌, ℕ, List, Option};
     ghost use Rattle.stream_writer.specs.Sinks.{Puts};
@@ -63,7 +62,7 @@ pub trait Files: Sink {
     /// A new file, which may take the place of another. It goes to `place` or to `discard`.
     type New: Sink;
 
-    /// What the file at a path holds, where the value can tell.
+    /// What the file at a path holds, where the value knows it.
     ghost content: { Self → List ℕ → Option (List ℕ) };
 
     /// Why the file that was named last could not be made.
@@ -98,8 +97,8 @@ pub trait Files: Sink {
         ensures content { content self.new ≡ content self.old }
         ensures begins { IfOk result (λ found. IfSome found (λ file. Self.New.sunk file ≡ Self.sunk self.old)) };
 
-    /// Gives a new file the place of the one at `path`, so that all that it took is put at once. Where that fails the
-    /// new file is thrown away, and one failure is counted.
+    /// Gives a new file the place of the one at `path`, so that all its bytes are put at once. Where that fails the new
+    /// file is discarded, and one failure is counted.
     fn place(&mut self, file: Self::New, path: &str) -> Result<(), DeviceFault>
         ensures placed { OnOk result (Self.sunk self.new ≡ Self.New.sunk file) }
         ensures failed { IfErr result (λ fault. Puts (Self.sunk self.old) (Self.sunk self.new) (Err fault) []) }
@@ -107,18 +106,18 @@ pub trait Files: Sink {
             (λ _. ReplacesBy (Self.sunk self.old) (Self.New.sunk file) (content self.old) (content self.new) path.now)
             (λ _. content self.new ≡ content self.old) };
 
-    /// Throws a new file away.
+    /// Discards a new file.
     fn discard(&mut self, file: Self::New)
         ensures sunk { Self.sunk self.new ≡ Self.sunk self.old }
         ensures content { content self.new ≡ content self.old };
 
-    /// Has what `lv` prints go aside from now on, to standard error, or again where it went at first: aside where
-    /// standard output takes the bytes of a file.
+    /// Sends what `lv` prints to standard error from now on, or again to where it went at first: to standard error
+    /// where standard output gets the bytes of a file.
     fn print_aside(&mut self, is_aside: bool)
         ensures sunk { Self.sunk self.new ≡ Self.sunk self.old }
         ensures content { content self.new ≡ content self.old };
 
-    /// Tells a person more than the answer that `lv` prints: on standard error, or nowhere.
+    /// Reports to the user what isn't part of the answer that `lv` prints: on standard error, or nowhere.
     fn remark<D: Display + Drop>(&mut self, remark: D)
         ensures sunk { Self.sunk self.new ≡ Self.sunk self.old }
         ensures content { content self.new ≡ content self.old };

@@ -1,6 +1,6 @@
 //! The commands of the program `lv`, over arguments, files and an output that its caller gives: `recast`, `inspect` and
-//! `show` of a stream, `check` of a configuration, and over a session `run` of a script and `live` of lines as they come.
-//! A stream can be recast whole, from a source that is read piece by piece, or in one pass, also to a new file.
+//! `show` of a stream, `check` of a configuration, and over a session `run` of a script and `live` of lines as they
+//! come. A stream can be recast whole, from a source that is read piece by piece, or in one pass, also to a new file.
 #![tactic(auto)]
 
 mod files;

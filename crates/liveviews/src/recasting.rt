@@ -1,4 +1,5 @@
-//! The canonical stream of a stream: of one that is held whole, in one pass, and to a new file in the place of another.
+//! The canonical stream of a stream: of one that is in memory whole, in one pass, and to a new file that replaces
+//! another.
 
 mod batch;
 mod buffered_batches;

@@ -28,9 +28,9 @@ pub(crate) enum Form {
 /// Why rows could not be printed.
 #[derive(Clone, Copy, Debug)]
 pub(crate) enum PrintFault {
-    /// The output took no more.
+    /// The output failed.
     Unprinted,
-    /// Memory ran out.
+    /// Memory was refused.
     Memory,
 }
 
@@ -49,9 +49,9 @@ impl From<AllocError> for PrintFault {
 /// Why a stream was not shown whole. What was printed before stays.
 #[derive(Clone, Copy, Debug)]
 pub(crate) enum ShowFault {
-    /// The source can't be read, or memory for that ran out.
+    /// The source can't be read, or memory for that was refused.
     Source(FileFault),
-    /// A fault stands in the stream, or memory for reading it ran out.
+    /// The stream has a fault, or memory for reading it was refused.
     Stream(StreamFault),
     Print(PrintFault),
 }
@@ -89,21 +89,21 @@ impl From<PrintFault> for ShowFault {
     }
 }
 
-/// The rows of a stream, as far as they came.
+/// The rows of a stream that were read so far, and how they are printed.
 #[derive(Drop)]
 struct Rows {
     alloc: Global,
     form: Form,
     /// How many rows are printed at most.
     most: u64,
-    /// How many rows came.
+    /// How many rows were read.
     count: u64,
     /// The table, once the names of its columns are printed.
     table: Option<Table>,
 }
 
 impl Rows {
-    /// No rows, of which at most so many are printed.
+    /// No rows yet, of which at most so many are to be printed.
     fn new(alloc: Global, form: Form, most: u64) -> Rows {
         Rows {
             alloc,
@@ -176,7 +176,7 @@ impl Rows {
         }
     }
 
-    /// Takes a batch of `rows` rows, and prints as many of them as are still to be printed.
+    /// Reads a batch of `rows` rows, and prints as many of them as are still to be printed.
     #[tactic(auto, using(crate::proofs::Shows::rows_of))]
     fn take<W: Write>(
         &mut self,
@@ -266,8 +266,8 @@ impl Showing {
         }
     }
 
-    /// Takes the first message of a piece, or all of the piece where it ends before the message does, and returns how
-    /// many bytes were used. What is said holds whatever bytes come after the piece.
+    /// Consumes the first message of a piece, or all of the piece where it ends before the message does, and returns
+    /// how many bytes were used. The contract holds whatever bytes come after the piece.
     fn take<W: Write>(&mut self, piece: &[u8], out: &mut W) -> Result<usize, ShowFault>
         requires open { IsOpen self.old.feed }
         requires some { 0 < length piece.now }
@@ -287,7 +287,7 @@ impl Showing {
         Ok(used)
     }
 
-    /// Takes all messages of a piece, and what it has of one more.
+    /// Consumes all messages of a piece, and what it has of one more.
     fn take_all<W: Write>(&mut self, piece: &[u8], out: &mut W) -> Result<(), ShowFault>
         requires open { IsOpen self.old.feed }
         ensures open { OnOk result (IsOpen self.new.feed) }
@@ -304,7 +304,7 @@ impl Showing {
         Ok(())
     }
 
-    /// Takes all messages of a source. What is printed of a piece is handed on before the next one is read.
+    /// Consumes all messages of a source. What is printed of a piece is flushed before the next one is read.
     fn take_source<R: Read, W: Write>(
         &mut self,
         alloc: Global,
@@ -345,8 +345,8 @@ impl Showing {
             → IsShown result input) }
         ensures fault { IfErr result (λ e. (a : Account) → Remains a self.old.feed [] → IsFault a e) }
     {
-        // They do nothing: the proof takes from them that there is no event where no byte is left, and that a fault
-        // stands in the stream where its account ends with one.
+        // They do nothing: the proof takes from them that there is no event where no byte is left, and that the stream
+        // has a fault where its account ends with one.
         pieces_law();
         account_law();
         self.feed.finish()?;
@@ -375,7 +375,7 @@ impl Showing {
                 Err(fault) => Err(ShowFault::Print(fault)),
             },
             Err(fault) => {
-                // The fault is told also where the last rows can't be printed.
+                // The fault is reported also where the last rows can't be printed.
                 let _ = out.flush();
                 Err(fault)
             }
@@ -383,8 +383,8 @@ impl Showing {
     }
 }
 
-/// Prints the rows of the whole stream that a source holds, at most so many, reading it piece by piece. The rows before
-/// a fault were printed.
+/// Prints the rows of the whole stream that a source holds, at most so many, reading it piece by piece. Where there is
+/// a fault, the rows before it were printed.
 pub(crate) fn show_from<R: Read, W: Write>(
     alloc: Global,
     source: &mut R,
@@ -406,7 +406,7 @@ pub(crate) fn show_from<R: Read, W: Write>(
     match showing.take_source(alloc, source, &mut out) {
         Ok(()) => showing.close(&mut out),
         Err(fault) => {
-            // The fault is told also where the last rows can't be printed.
+            // The fault is reported also where the last rows can't be printed.
             let _ = out.flush();
             Err(fault)
         }

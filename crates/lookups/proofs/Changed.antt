@@ -1,4 +1,4 @@
--- What is kept when one row changes.
+-- What is stored when one row changes.
 use Rattle.view_lang.proofs.ExactKeys.{key_exact}
 use Rattle.lookups.specs.Keeping.{Keeps, holds, is_key, key_held}
 use Rattle.lookups.specs.Refers.{RowsByKey, found_at, is_among, key_cmp, numbers_in, refers}
@@ -21,7 +21,7 @@ use Rattle.view_lang.specs.Cells.{cell_at}
 use Rattle.view_lang.specs.Counted.{lookup-with_at}
 use Rattle.view_lang.specs.Shifts.{NumberedRows, row_at, with_at}
 
--- where one number comes or goes under one key
+-- where one number is added to those of one key, or removed
 module _ (old new : RowsByKey) (held : Key) (m : ℕ) (b : Bool)
     (here : (n : ℕ) → refers new held n ≡ cond (n == m) b (refers old held n))
     (others : (k : Key) → is_at (key_cmp held) k ≡ false → found_at new k ≡ found_at old k) where
@@ -38,16 +38,16 @@ module _ (old new : RowsByKey) (held : Key) (m : ℕ) (b : Bool)
       at-by k n (is_at (key_cmp held) k) refl
       ∙ ap (λ (o : Option Key). cond (is_key k o && n == m) b (refers old k n)) (sym h)
 
--- the key that a cell is, read where it lies
+-- the key in a cell, read where it lies
 pub key-seen : (cell : CellView) (held : Datum) → viewed cell ≡ shallow held → key_of (viewed cell) ≡ key_of held
 key-seen cell held h = ap key_of h ∙ key_of-shallow held
 
--- the key of a row's first cell is that which the row holds
+-- the key of a row's first cell is the one that the row holds
 pub held-at : (cell : CellView) (row : Option (List Datum)) (cells : List Datum) → row ≡ Some cells
     → viewed cell ≡ shallow (cell_at cells 0) → key_of (viewed cell) ≡ key_held row
 held-at cell row cells is h = key-seen cell (cell_at cells 0) h ∙ sym (ap key_held is)
 
--- first the row before goes, then that after it comes
+-- first the row before is deleted, then that after it inserted
 abbrev pub moved : Bool → Bool → Bool → Bool → Bool
 moved before after at there = cond (after && at) true (cond (before && at) false there)
 
@@ -105,7 +105,7 @@ keeps-one old mid new n before after rows gone come s is kept = record {
       ∙ one n before after rows s is k m;
 }
 
--- What is said of the key of a cell is said of the row that holds it.
+-- What holds of the key of a cell holds of the row that has it.
 module _ (old new : RowsByKey) (n : ℕ) (b : Bool) (o : Option Key) (row : Option (List Datum)) (h : o ≡ key_held row)
     (f : (k : Key) (m : ℕ) → refers new k m ≡ cond (is_key k o && m == n) b (refers old k m)) where
   pub said-of-row : (k : Key) (m : ℕ) → refers new k m ≡ cond (holds k row && m == n) b (refers old k m)

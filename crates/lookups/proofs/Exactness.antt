@@ -1,4 +1,4 @@
--- Which rows hold which keys says all that is kept.
+-- Which rows hold which keys determines all that is stored.
 use Rattle.view_lang.proofs.ExactKeys.{key_exact}
 use Rattle.lookups.proofs.SameEntries.{same-entries}
 use Rattle.lookups.specs.Refers.{RefersToAll, found_at, is_among, is_bare, key_cmp, numbers_in}

@@ -38,7 +38,7 @@ module _ (p : Key → Bool) (k : Key) where
       rw same (either (p x) (list_any p xs))
   again-by x xs i false e h = past (p x) (list_any p xs) (i h)
 
-  -- A key that comes again passes no test that none before it passed.
+  -- A key that is there again passes no test that none before it passed.
   again : (ks : List Key) → list_any (is_at (key_cmp k)) ks ≡ true → (list_any p ks || p k) ≡ list_any p ks
   again [] h = absurd (cc)
   again (x ∷ xs) h = again-by x xs (again xs) (is_at (key_cmp k) x) refl h

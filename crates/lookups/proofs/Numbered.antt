@@ -48,7 +48,7 @@ not-bare None n h = refl
 not-bare (Some []) n h = absurd (true≢false (sym h))
 not-bare (Some (m ∷ ms)) n h = refl
 
--- a key to which a number came
+-- a key to which a number was added
 pub not-bare-with : (new : RowsByKey) (k : Key) (n : ℕ) (b : Bool) → refers new k n ≡ cond (n == n) true b
     → is_bare (found_at new k) ≡ false
 not-bare-with new k n b h =

@@ -1,4 +1,4 @@
--- Rows by key made again of what they were taken apart into.
+-- Rows by key made again from the parts.
 use Rattle.view_lang.proofs.LastEntries.{entry-next, found-next}
 use Rattle.lookups.proofs.Exactness.{key_total}
 use Rattle.lookups.specs.ReferrersParts.{entry_with}
@@ -10,7 +10,7 @@ use Rattle.std.specs.List.Sorted.{IsStrictlySortedBy}
 use Rattle.std.specs.Ordering.{nat_cmp}
 use Rattle.std.specs.Prelude.{◌++◌, ℕ, List, ◌∷◌, map, Option}
 
--- where the first of the keys that are left is put to those that are there
+-- where the first of the remaining keys is added to those that are there
 module _ (es : RowsByKey) (left rest all : List KeyNumbers) (x : KeyNumbers) (is : left ≡ x ∷ rest)
     (so_far : es ++ map entry_with left ≡ map entry_with all) (ordered : IsOrdered (map entry_with all)) where
   whole : es ++ map entry_with (x ∷ rest) ≡ map entry_with all

@@ -22,6 +22,6 @@ is_key k (Some held) = is_at (key_cmp held) k
 abbrev pub holds : Key → Option (List Datum) → Bool
 holds k row = is_key k (key_held row)
 
--- A number is under a key where the row of that number holds it.
+-- A key has a number where the row of that number holds it.
 pub record Keeps (kept : RowsByKey) (rows : NumberedRows) : Type 0 where
   pub rows_are : (k : Key) (n : ℕ) → refers kept k n ≡ holds k (row_at n rows)

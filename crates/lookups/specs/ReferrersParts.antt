@@ -8,6 +8,6 @@ use Rattle.values.specs.declared.key.Key.{Key}
 abbrev pub entry_with : KeyNumbers → Key × List ℕ
 entry_with k = (k.key, k.numbers.items)
 
--- what is kept that has these parts
+-- the numbers by key that have these parts
 abbrev pub rows_with : ReferrersParts → RowsByKey
 rows_with p = map entry_with p.keys.items

@@ -12,7 +12,7 @@ use Rattle.values.specs.declared.key.Key.{Key}
 abbrev pub key_cmp : Key → Key → Ordering
 key_cmp = order.ghosts.cmp
 
--- the numbers of rows under each key that one of them holds
+-- the numbers of rows by each key that one of them holds
 abbrev pub RowsByKey : Type 0
 RowsByKey = List (Key × List ℕ)
 
@@ -49,7 +49,7 @@ pub record IsOrdered (rows : RowsByKey) : Type 0 where
   pub ascending : IsStrictlySortedBy key_cmp (keys_of rows)
   pub numbers : HasNumbers rows
 
--- Nothing else is kept than which rows hold which keys.
+-- Nothing else is stored than which rows hold which keys.
 abbrev pub RefersToAll : Type 0
 RefersToAll =
     (rows others : RowsByKey) → IsOrdered rows → IsOrdered others

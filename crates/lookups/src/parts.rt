@@ -2,7 +2,7 @@
 
 use values::Key;
 
-/// All that `Referrers` keep: keys, ascending, each with the numbers of the rows that hold it.
+/// All that `Referrers` store: keys, ascending, each with the numbers of the rows that hold it.
 #[derive(Debug, Drop)]
 pub struct ReferrersParts {
     pub keys: Vec<KeyNumbers>,

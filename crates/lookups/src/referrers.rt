@@ -47,9 +47,9 @@ use std::marker::Model;
 use values::{CellView, Key, KeyBuffer};
 use view_lang::{Change, RowChange, RowView, Upkeep};
 
-/// The numbers of a table's rows by the key that each holds in a column. Contracts see the numbers under each key.
+/// The numbers of a table's rows by the key that each holds in a column. Contracts see the numbers of each key.
 ///
-/// A key is dropped with its last number, so what is kept doesn't depend on the changes that led to it.
+/// A key is dropped with its last number, so what is stored doesn't depend on the changes that led to it.
 #[derive(Debug, Drop)]
 pub struct Referrers {
     alloc: Global,
@@ -80,7 +80,7 @@ impl Referrers {
         }
     }
 
-    /// Takes the referrers apart. The parts are all that they keep. If memory is refused, they are lost.
+    /// Takes the referrers apart. The parts are all that they store. If memory is refused, they are lost.
     pub fn into_parts(self) -> Result<ReferrersParts, AllocError>
         ensures value { IfOk result (λ parts. rows_with parts ≡ self) }
         ensures ordered { IfOk result (λ parts. IsOrdered (rows_with parts)) }
@@ -114,7 +114,7 @@ impl Referrers {
         })
     }
 
-    /// Adds a row's number under the key that the row holds. If memory is refused, nothing has changed.
+    /// Adds a row's number to those of the key that the row holds. If memory is refused, nothing has changed.
     pub fn add(&mut self, key: Key, number: usize) -> Result<(), AllocError>
         ensures here { OnOk result ((n : ℕ) → refers self.new key n ≡ cond (n == number) true (refers self.old key n)) }
         ensures others { (k : Key) → is_at (key_cmp key) k ≡ false → found_at self.new k ≡ found_at self.old k }
@@ -124,7 +124,7 @@ impl Referrers {
         Ok(())
     }
 
-    /// Removes a row's number from those under a key. It takes no memory.
+    /// Removes a row's number from those of a key. It takes no memory.
     pub fn remove(&mut self, key: &Key, number: usize)
         ensures here { (n : ℕ) → refers self.new key.now n ≡ cond (n == number) false (refers self.old key.now n) }
         ensures others { (k : Key) → is_at (key_cmp key.now) k ≡ false → found_at self.new k ≡ found_at self.old k }
@@ -132,7 +132,7 @@ impl Referrers {
         take_number(&mut self.rows, key, number);
     }
 
-    /// A row of one cell comes under a number that no row has. If memory is refused, nothing has changed.
+    /// Inserts a row of one cell with a number that no row has. If memory is refused, nothing has changed.
     pub fn come(&mut self, number: usize, cell: CellView<'_>) -> Result<(), AllocError>
         ensures kept { OnOk result ((rows : NumberedRows) (held : Datum) → viewed cell.entry ≡ shallow held
             → FollowsShift (Keeps self.old) (Keeps self.new) (shift number None (Some (held ∷ []))) rows) }
@@ -142,7 +142,7 @@ impl Referrers {
         Ok(())
     }
 
-    /// The row of one cell under a number goes. If memory is refused, nothing has changed.
+    /// Deletes the row of a number, which has this cell. If memory is refused, nothing has changed.
     pub fn go(&mut self, number: usize, cell: CellView<'_>) -> Result<(), AllocError>
         ensures kept { OnOk result ((rows : NumberedRows) (held : Datum) → viewed cell.entry ≡ shallow held
             → FollowsShift (Keeps self.old) (Keeps self.new) (shift number (Some (held ∷ [])) None) rows) }
@@ -152,7 +152,7 @@ impl Referrers {
         Ok(())
     }
 
-    /// Adds a row's number under the key that a cell is, if it is one.
+    /// Adds a row's number to those of the key in a cell, if it is a key.
     fn put(&mut self, number: usize, cell: CellView<'_>) -> Result<(), AllocError>
         ensures rows { OnOk result ((k : Key) (n : ℕ) → refers self.new k n
             ≡ cond (is_key k (key_of (viewed cell.entry)) && n == number) true (refers self.old k n)) }
@@ -165,7 +165,7 @@ impl Referrers {
         Ok(())
     }
 
-    /// Removes a row's number from those under the key that a cell is, if it is one.
+    /// Removes a row's number from those of the key in a cell, if it is a key.
     fn take(&mut self, number: usize, cell: CellView<'_>) -> Result<(), AllocError>
         ensures rows { OnOk result ((k : Key) (n : ℕ) → refers self.new k n
             ≡ cond (is_key k (key_of (viewed cell.entry)) && n == number) false (refers self.old k n)) }
@@ -221,7 +221,7 @@ impl Referrers {
         }
     }
 
-    /// Removes the row before a change from those under its key, if there was one.
+    /// Removes the row before a change from those of its key, if there was one.
     fn remove_before(&mut self, changed: &RowChange) -> Result<(), AllocError>
         ensures { OnOk result ((k : Key) (n : ℕ) → refers self.new k n
             ≡ cond (holds k changed.now.before && n == changed.now.number) false (refers self.old k n)) }
@@ -232,7 +232,7 @@ impl Referrers {
         Ok(())
     }
 
-    /// Adds the row after a change under its key, if there is one.
+    /// Adds the row after a change to those of its key, if there is one.
     fn add_after(&mut self, changed: &RowChange) -> Result<(), AllocError>
         ensures { OnOk result ((k : Key) (n : ℕ) → refers self.new k n
             ≡ cond (holds k changed.now.after && n == changed.now.number) true (refers self.old k n)) }
@@ -255,7 +255,7 @@ impl Referrers {
     }
 }
 
-/// Rows come under the keys of their first cells. A row whose first cell is a list or a struct is under none.
+/// Rows are stored by the key in their first cell. A row whose first cell is a list or a struct has none.
 impl Upkeep for Referrers {
     ghost use Rattle.lookups.specs.Keeping.{Keeps};
     ghost use Rattle.std.specs.Prelude.{OnOk};
@@ -297,7 +297,7 @@ fn put_number(
     Ok(())
 }
 
-/// Removes a number from those under a key, and the key with its last number.
+/// Removes a number from those of a key, and the key with its last number.
 #[tactic(auto, using(crate::proofs::NoNumbers::none_ascends))]
 fn take_number(rows: &mut BTreeMap<Key, NumberSet>, key: &Key, number: usize)
     ensures here { (n : ℕ) → refers rows.new.entries key.now n

@@ -38,7 +38,8 @@ fn row(alloc: Global, number: i128) -> Result<Row, AllocError> {
     Ok(cells)
 }
 
-/// Rows 0 and 2 come with 7, row 1 with 5 and row 3 without a cell. Then row 0 changes to 5, and row 1 goes.
+/// Rows 0 and 2 are inserted with 7, row 1 with 5 and row 3 without a cell. Then row 0 changes to 5, and row 1 is
+/// deleted.
 fn change(alloc: Global) -> Result<Change, AllocError> {
     let mut change = Change::new(alloc);
     change.push(RowChange::new(0, None, Some(row(alloc, 7)?)))?;

@@ -1,7 +1,7 @@
 //! A box as its pointer.
 //!
 //! `Loose` and its two proofs are those of the toolchain's `once_cell`, a port of the Rust crate of that name (MIT or
-//! Apache 2.0), which keeps them to itself.
+//! Apache 2.0), where they are private.
 #![tactic(auto)]
 
 ghost use Rattle.std.specs.Prelude.{◌≡◌};

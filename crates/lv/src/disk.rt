@@ -16,12 +16,12 @@ use std::{fs, io};
 use stream_writer::{DeviceFault, Sink};
 
 /// The files of the machine. `put` writes the file that was named last; the first put makes or empties it. A new file
-/// lies beside the one whose place it may take.
+/// lies beside the one that it may replace.
 #[derive(Drop)]
 pub struct Disk<'a, R: std::rt::Files> {
     runtime: &'a R,
     aside: &'a Aside,
-    /// Whether a terminal is told how far a file was read.
+    /// Whether the progress of reading a file is reported to a terminal.
     is_reported: bool,
     output: Output<R::File>,
     fault: Option<FileFault>,
@@ -71,7 +71,7 @@ impl<'a, R: std::rt::Files> Disk<'a, R> {
 }
 
 impl<'a, R: std::rt::Files + Clock + Eprint> Disk<'a, R> {
-    /// The progress of reading a file of so many bytes, where a terminal is told of it.
+    /// The progress of reading a file of this many bytes, where it is reported to a terminal.
     fn progress(&self, total: Option<u64>) -> Option<Progress<'a, R>> {
         if self.is_reported {
             Progress::begin(self.runtime, total)
@@ -216,7 +216,7 @@ impl<'a, R: std::rt::Files + Input + Print + Eprint + Clock + AllocGlobal> Files
     }
 
     fn remark<D: Display + Drop>(&mut self, remark: D) {
-        // Whether it can be printed changes nothing: the answer goes to standard output.
+        // It doesn't matter whether it can be printed: the answer goes to standard output.
         let _ = self.runtime.eprintln(remark);
     }
 
@@ -225,8 +225,8 @@ impl<'a, R: std::rt::Files + Input + Print + Eprint + Clock + AllocGlobal> Files
     }
 }
 
-/// Writes some first bytes of a piece that isn't empty, and returns how many the file took. Where it took none, that is
-/// a failure.
+/// Writes a prefix of a piece that isn't empty, and returns how many bytes the file took. Where it took none, that is a
+/// failure.
 pub fn write_to<F: Write>(file: &mut F, piece: &[u8]) -> Result<usize, DeviceFault>
     ensures bound { IfOk result (λ n. (1 ≤ n) × (n ≤ length piece.now)) }
     ensures took { WriteAppends (F.contents file.old) (F.contents file.new) result piece.now }

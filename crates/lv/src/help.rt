@@ -1,4 +1,4 @@
-//! What standard error tells those who ask for help.
+//! What is printed to standard error where help is asked for.
 
 use std::io::Write;
 
@@ -36,7 +36,7 @@ fn text(words: &[String]) -> Option<&'static str> {
 /// Writes the usage or the version to `error`, if it is asked for.
 pub fn tell<W: Write>(words: &[String], error: &mut W) {
     if let Some(text) = text(words) {
-        // Whether it can be written changes nothing: the answer of `lv` has gone to standard output.
+        // It doesn't matter whether it can be written: the answer of `lv` has gone to standard output.
         let _ = error.write_all(text.as_bytes());
     }
 }

@@ -1,4 +1,4 @@
-//! New files, each beside the one whose place it is to take.
+//! New files, each beside the one that it is to replace.
 
 ghost use Rattle.std.specs.Prelude.{◌≡◌, IfOk, IfSome};
 
@@ -22,9 +22,9 @@ const MOST_NAMES: u32 = 10_000;
 #[derive(Drop)]
 pub struct NewFile<F> {
     file: F,
-    /// Where it lies now.
+    /// Its path now.
     path: String,
-    /// Where it is to lie.
+    /// Its path in the end.
     target: String,
     pub failures: u64,
 }
@@ -46,15 +46,15 @@ impl<F: Write> Sink for NewFile<F> {
     }
 }
 
-/// Where a new file is to lie, and what is known of the file there, if there is one.
+/// The path that a new file gets in the end, and what is known of the file there, if there is one.
 #[derive(Drop)]
 struct Target {
     path: String,
     old: Option<Metadata>,
 }
 
-/// The place of the file at `path`, behind symbolic links, if a new file can take it: there is none, or a regular file
-/// that has one name and can be written.
+/// The target for `path`, after following symbolic links, if a new file can replace what is there: nothing, or a
+/// regular file that has one name and can be written.
 fn find_target<R: std::rt::Files + AllocGlobal>(
     runtime: &R,
     path: &str,
@@ -117,7 +117,7 @@ fn create_beside<R: std::rt::Files + AllocGlobal>(
     Err(Error::from(ErrorKind::AlreadyExists))
 }
 
-/// Gives the new file at `path` the owner, the group and the permissions of the old one. They lie in one file system.
+/// Gives the new file at `path` the owner, the group and the permissions of the old one. They are in one file system.
 fn keep_owner<R: std::rt::Files>(
     runtime: &R,
     path: &str,
@@ -134,8 +134,8 @@ fn keep_owner<R: std::rt::Files>(
     file.set_permissions(old.permissions())
 }
 
-/// Begins a new file, which is to take the place of the one at `path`. `None`, or an error, where that can't be:
-/// nothing is left of it then.
+/// Begins a new file, which is to replace the one at `path`. `None`, or an error, where that can't be: nothing is left
+/// of it then.
 pub fn begin<R: std::rt::Files + AllocGlobal>(
     runtime: &R,
     path: &str,
@@ -170,7 +170,7 @@ pub fn begin<R: std::rt::Files + AllocGlobal>(
     }
 }
 
-/// Gives a new file its place, once the device has taken all of it. Where that fails the new file is removed.
+/// Moves a new file to its target, once the device has stored all of it. Where that fails the new file is removed.
 pub fn place<R: std::rt::Files>(runtime: &R, new: NewFile<R::File>) -> io::Result<()> {
     let placed = new.file.sync_all().and_then(|()| fs::rename(
         runtime,

@@ -1,30 +1,30 @@
-//! How far a long run has come.
+//! The progress of a long run.
 
 use std::io;
 use std::io::{Eprint, Read};
 use std::rt::Clock;
 use std::time::{Duration, Instant};
 
-/// A run is told of after so many seconds.
+/// After this many seconds progress is reported first.
 const PATIENCE: u64 = 2;
 
-/// It is told of again after so many milliseconds.
+/// It is reported again after this many milliseconds.
 const PAUSE: u64 = 500;
 
-/// Tells a terminal, by a line of its own that is taken away at the end, how many bytes of a file were read.
+/// Reports on a terminal, by a line of its own that is removed at the end, how many bytes of a file were read.
 pub struct Progress<'a, R: Clock + Eprint> {
     runtime: &'a R,
     /// How many bytes the file has, where that is known.
     total: Option<u64>,
     done: u64,
     begun: Instant,
-    /// When it is told next, counted from the beginning.
+    /// When it is reported next, counted from the beginning.
     next: Duration,
     is_reported: bool,
 }
 
 impl<'a, R: Clock + Eprint> Progress<'a, R> {
-    /// The progress of a run that begins now, where the time can be told.
+    /// The progress of a run that begins now, where the time is known.
     pub fn begin(runtime: &'a R, total: Option<u64>) -> Option<Self> {
         let begun = Instant::now(runtime).ok()?;
         Some(Progress {
@@ -37,7 +37,7 @@ impl<'a, R: Clock + Eprint> Progress<'a, R> {
         })
     }
 
-    /// Counts bytes that were read, and tells of them when it is time.
+    /// Counts bytes that were read, and reports them when it is time.
     fn add(&mut self, len: usize) {
         self.done = self.done.saturating_add(len as u64);
         let Ok(passed) = self.begun.elapsed(self.runtime) else {
@@ -52,7 +52,7 @@ impl<'a, R: Clock + Eprint> Progress<'a, R> {
 
     fn tell(&self) {
         let done = self.done;
-        // Whether it can be told changes nothing.
+        // It doesn't matter whether it can be reported.
         let _ = match self.total {
             Some(total) => eprint!(self.runtime; "\r{done} of {total} bytes\x1b[K"),
             None => eprint!(self.runtime; "\r{done} bytes\x1b[K"),
@@ -76,7 +76,7 @@ impl<R: Clock + Eprint> Drop for Progress<'_, R> {
     }
 }
 
-/// A file that is read, and of whose reading it is told, where that is wanted.
+/// A file that is read, with a report of its progress where that is wanted.
 #[derive(Drop)]
 pub struct Tracked<'a, R: Clock + Eprint, S> {
     pub source: S,

@@ -4,13 +4,13 @@ use std::cell::Cell;
 use std::io::Write;
 use std::{fs, io};
 
-/// The path that stands for standard input and standard output.
+/// The path that denotes standard input and standard output.
 pub const STANDARD: &str = "-";
 
-/// Whether what is printed goes to standard error, since standard output takes the bytes of a file.
+/// Whether what is printed goes to standard error, since standard output gets the bytes of a file.
 pub type Aside = Cell<bool>;
 
-/// Where the answers of `lv` go: to standard output, or aside to standard error.
+/// The output of the answers of `lv`: standard output, or standard error in its place.
 #[derive(Drop)]
 pub struct Answers<'a, O, E> {
     output: O,
@@ -46,7 +46,7 @@ impl<O: Write, E: Write> Write for Answers<'_, O, E> {
     }
 }
 
-/// Descriptors that take the numbers of standard streams that were closed.
+/// Descriptors that occupy the numbers of standard streams that were closed.
 ///
 /// A file that is opened gets the least free number. Without these descriptors it could get that of a closed standard
 /// output, and what is printed would be written to it. Printing to one of these descriptors fails.
@@ -55,7 +55,7 @@ pub struct Held<F> {
     _files: [F; 3],
 }
 
-/// Holds the numbers 0 to 2, before any other file is opened.
+/// Occupies the numbers 0 to 2, before any other file is opened.
 pub fn hold<R: std::rt::Files>(runtime: &R) -> io::Result<Held<R::File>> {
     let open = || fs::open(runtime, "/dev/null");
     Ok(Held {

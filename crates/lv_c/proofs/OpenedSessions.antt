@@ -1,4 +1,4 @@
--- A session that is opened is kept, or memory was refused for its box.
+-- A session that is opened is stored, or memory was refused for its box.
 use mathlib.Core.Path.{refl}
 use Rattle.std.proofs.Common.{ℕ, List, inl, inr}
 use Rattle.std.specs.Prelude.{None, Option}

@@ -38,7 +38,7 @@ abbrev pub written_cause : Cause → Cause
 written_cause cause.Device = cause.Memory
 written_cause c = c
 
--- a view: as many bytes as were written, of the whole stream or of its beginning
+-- a view: as many bytes as were written, of the whole stream or of a prefix of it
 abbrev pub view_answer : Result ℕ ViewFault → LvWritten
 view_answer (Ok n) = record { len = n; cause = 0 }
 view_answer (Err view_fault.UnknownView) = record { len = 0; cause = number_of cause.UnknownView }

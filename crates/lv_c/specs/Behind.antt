@@ -1,4 +1,4 @@
--- What calls do to what stands behind an open handle: the session, and the bytes of the view that was written last.
+-- What calls do to the contents of an open handle: the session, and the bytes of the view that was written last.
 use Rattle.std.specs.Prelude.{
   ◌≡◌,
   ◌⊎◌,
@@ -40,7 +40,7 @@ use Rattle.lv_c.specs.declared.held.Held.{Held}
 abbrev pub last_stream : Held → List ℕ
 last_stream h = h.output.bytes.items
 
--- The session shows the start of the configuration that these bytes mean, and no view was written.
+-- The session represents the start of the configuration that these bytes mean, and no view was written.
 pub record Opens (bytes : List ℕ) (h : Held) : Type 0 where
   pub config : Config
   pub means : text_means bytes ≡ Ok config
@@ -48,7 +48,7 @@ pub record Opens (bytes : List ℕ) (h : Held) : Type 0 where
   pub declared : config_of h.session ≡ config
   pub output : last_stream h ≡ []
 
--- These bytes are refused as a configuration: they aren't UTF-8, or a fault stands in the text, or memory ran out.
+-- These bytes are refused as a configuration: they aren't UTF-8, the text has this fault, or memory was refused.
 abbrev pub RefusesConfig : List ℕ → Cause → Type 0
 RefusesConfig bytes c = ((c ≡ cause.NotToml) × ¬ (IsUtf8 bytes))
     ⊎ ((f : ConfigFault) × (c ≡ cause_of f) × Fails f (text_means bytes))
@@ -80,7 +80,7 @@ pub record Undoes (old : Held) (answer : Result (Unit {0}) Fault) (new : Held) :
   pub visits : UndoOpens old.session.tables old.session.records answer new.session.tables
   pub output : new.output ≡ old.output
 
--- A write of the view of a name: what is kept then is what went out, the whole stream or a beginning of it, and nothing
+-- A write of the view of a name: what is stored then is what was put, the whole stream or a prefix of it, and nothing
 -- where there is no such view. A name that isn't UTF-8 is that of no view.
 pub record WritesLast (old : Held) (view : List ℕ) (answer : Result ℕ ViewFault) (new : Held) : Type 0 where
   pub named : IsUtf8 view → IsStep old.session

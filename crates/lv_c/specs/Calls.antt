@@ -1,5 +1,5 @@
--- Calls of a handle: what each answers, and what stands behind the handle then. Where nothing stands behind it, a call
--- says so, and nothing changes.
+-- Calls of a handle: what each answers, and the contents of the handle then. Where there are none, a call says so, and
+-- nothing changes.
 use Rattle.std.specs.Prelude.{◌≡◌, ◌⊎◌, ◌^◌, ◌-◌, ℕ, List, [], Option, None, Some, Result, IsErr, OnOk, count_by, length, min}
 use Rattle.values.specs.Causes.{number_of}
 use Rattle.values.specs.declared.causes.Cause.{Cause}
@@ -66,7 +66,7 @@ abbrev pub CopyCall : Option Held → ℕ → List ℕ → ℕ → List ℕ → 
 CopyCall None from old result new = (result ≡ 0) × (new ≡ old)
 CopyCall (Some h) from old result new = CopiesTo (last_stream h) from old result new
 
--- the number of live rows of the main table, in whatever state the session shows
+-- the number of live rows of the main table, in whatever state the session represents
 abbrev pub LiveRowsCall : Option Held → ℕ → Type 0
 LiveRowsCall None result = result ≡ 0
 LiveRowsCall (Some h) result = (s : State) → Shows h.session s
@@ -85,8 +85,8 @@ VisitsCall (Some h) result = result ≡ min (store_at h.session.tables.stores 0)
 abbrev pub IsBoxed : Held → ℕ → Option Held → Type 0
 IsBoxed h result new = ((result ≡ 0) × (new ≡ Some h)) ⊎ ((result ≡ number_of cause.Memory) × (new ≡ None))
 
--- A recast to memory: `kept` is what went out. On success that is the whole canonical stream, and the buffer has the
--- beginning of it that fits. Otherwise the buffer is as it was.
+-- A recast to memory: `kept` is what was put. On success that is the whole canonical stream, and the buffer has the
+-- prefix of it that fits. Otherwise the buffer is as it was.
 pub record RecastCall (input old : List ℕ) (result : LvWritten) (new : List ℕ) : Type 0 where
   pub answer : Result ℕ RecastFault
   pub kept : List ℕ
@@ -96,9 +96,9 @@ pub record RecastCall (input old : List ℕ) (result : LvWritten) (new : List �
   pub told : result ≡ recast_answer answer
   pub buffer : CopiesIf answer kept old new
 
--- Of a configuration that is accepted no place is told, and the buffer is as it was. Otherwise the buffer has the text
--- of some place, as much of it as fits, and the answer is the length of that text, or nothing is told for want of
--- memory.
+-- For a configuration that is accepted no part is reported, and the buffer is as it was. Otherwise the buffer has the
+-- text of some part, as much of it as fits, and the answer is the length of that text, or nothing is reported for want
+-- of memory.
 pub record ReportsPlace (old : List ℕ) (result : ℕ) (new : List ℕ) : Type 0 where
   pub text : List ℕ
   pub len : result ≡ length text

@@ -1,7 +1,7 @@
 -- Bytes that are copied to a buffer of C.
 use Rattle.std.specs.Prelude.{◌≡◌, ◌++◌, ℕ, List, Result, Ok, Err, length, take, drop}
 
--- as many bytes from that place on as there are and fit
+-- as many bytes from that offset on as there are and fit
 abbrev pub copied : List ℕ → ℕ → ℕ → List ℕ
 copied bytes from room = take room (drop from bytes)
 

@@ -21,7 +21,7 @@ use crate::held::Held;
 use std::alloc::Global;
 use values::Cause;
 
-/// Puts a session behind an empty handle, if memory is there for its box.
+/// Puts a session behind an empty handle, unless memory for its box is refused.
 fn keep(alloc: Global, handle: &mut Handle, held: Held) -> u8
     requires { handle.old.slot.value ≡ None }
     ensures { IsBoxed held result handle.new.slot.value }
@@ -93,7 +93,7 @@ pub extern "C" fn lv_undo(alloc: Global, handle: &mut Handle) -> u8
     answer_end(answer)
 }
 
-/// Writes the stream of a view to memory, as `Session::write_view` does. `lv_copy` reads it there.
+/// Writes the stream of a view to memory, as `Session::write_view` does. `lv_copy` copies it from there.
 #[unsafe(no_mangle)]
 pub extern "C" fn lv_write(alloc: Global, handle: &mut Handle, view: &[u8]) -> LvWritten
     ensures { WriteCall handle.old.slot.value view.now result handle.new.slot.value }
@@ -109,7 +109,7 @@ pub extern "C" fn lv_write(alloc: Global, handle: &mut Handle, view: &[u8]) -> L
     answer_view(answer)
 }
 
-/// Copies bytes of the stream that was written last, from place `from` on, and returns how many: as many as there are
+/// Copies bytes of the stream that was written last, from offset `from` on, and returns how many: as many as there are
 /// and fit.
 #[unsafe(no_mangle)]
 pub extern "C" fn lv_copy(

@@ -2,7 +2,7 @@
 
 ghost use Rattle.lv_c.specs.Copies.{CopiesTo};
 
-/// Copies bytes from place `from` on, as many as there are and fit, and returns how many.
+/// Copies bytes from offset `from` on, as many as there are and fit, and returns how many.
 pub fn copy_from(bytes: &[u8], from: usize, buffer: &mut [u8]) -> usize
     ensures { CopiesTo bytes.now from buffer.old result buffer.new }
 {

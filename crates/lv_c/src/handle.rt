@@ -1,4 +1,4 @@
-//! Handles, which C keeps.
+//! Handles, which C programs hold.
 
 ghost use Rattle.std.specs.Prelude.{◌≡◌, Option, Some, None, IsSome, MatchOption, true, false, is_some};
 
@@ -8,7 +8,7 @@ use loose::Loose;
 use std::alloc::Global;
 use std::mem;
 
-/// What a program keeps of a session. C sets it to zeros before the first call, and changes nothing in it.
+/// What a C program holds of a session. C sets it to zeros before the first call, and changes nothing in it.
 #[repr(C)]
 pub struct Handle {
     pub(crate) slot: HandleContent,
@@ -34,7 +34,7 @@ fn full(held: Box<Held>) -> Handle
     }
 }
 
-/// Takes what stands behind a handle. The handle is empty until it is put back.
+/// Takes the contents of a handle. The handle is empty until they are put back.
 pub fn take(alloc: Global, handle: &mut Handle) -> Option<Box<Held>>
     ensures left { handle.new.slot.value ≡ None }
     ensures taken { MatchOption result (handle.old.slot.value ≡ None)
@@ -47,7 +47,7 @@ pub fn take(alloc: Global, handle: &mut Handle) -> Option<Box<Held>>
     Some(slot.into_loose().into_box())
 }
 
-/// Puts it behind an empty handle.
+/// Puts contents behind an empty handle.
 pub fn put(handle: &mut Handle, held: Box<Held>)
     requires { handle.old.slot.value ≡ None }
     ensures { handle.new.slot.value ≡ Some held.value }

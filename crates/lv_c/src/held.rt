@@ -1,4 +1,4 @@
-//! What stands behind an open handle.
+//! The contents of an open handle.
 
 ghost use Rattle.std.specs.Prelude.{◌≡◌, [], IfErr, IfOk};
 ghost use Rattle.lv_c.specs.Behind.{Finishes, Opens, Pushes, RefusesConfig, Undoes, WritesLast};
@@ -63,7 +63,7 @@ impl Held {
         self.session.undo()
     }
 
-    /// Writes a view, and keeps what went out in place of the stream that was written before.
+    /// Writes a view, and stores what was put in place of the stream that was written before.
     pub fn write(&mut self, alloc: Global, view: &[u8]) -> Result<u64, ViewFault>
         ensures { WritesLast self.old view.now result self.new }
     {

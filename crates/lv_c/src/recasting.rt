@@ -9,7 +9,7 @@ use std::alloc::Global;
 use stream_writer::MemorySink;
 
 /// Reads a whole stream, and copies the canonical stream of its table to a buffer, as much of it as fits. The length is
-/// that of the whole, so a buffer that was too short is known by it.
+/// that of the whole, so it shows whether the buffer was too short.
 #[unsafe(no_mangle)]
 pub extern "C" fn lv_recast(alloc: Global, input: &[u8], buffer: &mut [u8]) -> LvWritten
     ensures { RecastCall input.now buffer.old result buffer.new }

@@ -10,7 +10,7 @@ use std::alloc::Global;
 use std::marker::Model;
 use std::ptr::null_mut;
 
-/// A box as the pointer to it, or none. The pointer is without a type, since one to a `Held` can't cross to C. Its
+/// A box as the pointer to it, or none. The pointer is without a type, since one to a `Held` can't be passed to C. Its
 /// functions are proved by hand, and only they make or read the pointer.
 #[repr(C)]
 pub struct HandleContent {

@@ -1,4 +1,4 @@
--- What a message brings: a schema comes once, out of a Schema table, and no other message has one.
+-- The schema of a message: a schema is read once, from a Schema table, and no other message has one.
 use Rattle.std.proofs.Common.{
   ◌≡◌,
   inl,

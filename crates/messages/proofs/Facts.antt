@@ -319,7 +319,7 @@ batch_facts known body t d e =
       facts = dictionary_facts q.0 known.counts body r.0 d r.2;
     }
 
--- The header that is read fits what is known, and only a schema brings one.
+-- The header that is read fits what is known, and only a Schema message has a schema.
 pub header_sound :
     (known : Known) (t : Table) (k : MessageKind) (body : ℕ) (m : Meta) → IsRead known.schema
     → header_of known t k body ≡ Ok m
@@ -368,7 +368,7 @@ header_counted known t kind.Dictionary body m e =
     let q = batch_facts known body t p.0 p.1 in
     subst (λ (x : Meta). IsCounted known.counts x.header) p.2 q.facts.few
 
--- and the fields of a schema that it brings are as they are read
+-- and the fields of its schema are as they are read
 header_read :
     (known : Known) (t : Table) (k : MessageKind) (body : ℕ) (m : Meta) → header_of known t k body ≡ Ok m
     → IsRead m.schema

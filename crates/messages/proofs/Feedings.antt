@@ -1,4 +1,4 @@
--- Feeding pieces, by the messages of all their bytes.
+-- Pushing pieces, by the messages of all their bytes.
 use Rattle.std.proofs.Common.{
   ◌≡◌,
   inl,
@@ -78,7 +78,7 @@ run_enough zero known (b ∷ bytes) l = absurd (omega arith)
 run_enough (suc n) known bytes l =
     enough_by n known bytes (first known bytes) l (λ next rest m. run_enough n next rest m) refl
 
--- no piece is left
+-- no piece remains
 ended_follows :
     (n : ℕ) (s : Stream) → first s.known s.held ≡ Ok None → Follows [] (Ok s) (message_sequence (suc n) s.known (s.held ++ []))
 ended_follows n s p =
@@ -127,7 +127,7 @@ follows_led :
     → Follows (m ∷ messages) end (led_by m r)
 follows_led m messages end r h = record { same = ap (λ ms. m ∷ ms) h.same; left = h.left }
 
--- a push that hands a message on
+-- a push that returns a message
 hands_follow :
     (n : ℕ) (old new : Stream) (piece later : List ℕ) (f : Framed) (w : Whole) (messages : List MessageView)
     (end : End) → first old.known (old.held ++ piece) ≡ Ok (Some w)
@@ -255,7 +255,7 @@ cuts_law old pieces others messages theirs end other p same h k =
     subst P (sym same) (feed_law old others theirs other p k) in
     (sym a.same ∙ b.same, agree (whole_sequence old.known (old.held ++ concat pieces)).rest end other a.left b.left)
 
--- feeding comes to an end
+-- pushing comes to an end
 abbrev Ends : Stream → List (List ℕ) → Type 0
 Ends s pieces = (messages : List MessageView) × (end : End) × Feeds s pieces messages end
 

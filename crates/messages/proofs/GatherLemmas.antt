@@ -74,7 +74,7 @@ part_gathers known held old piece n w l h e =
 
 pub ruleset gathers = (next_part, part_found, part_fails, part_gathers)
 
--- what is left after the bytes of a refused piece are cut off
+-- what remains after the bytes of a refused piece are cut off
 pub cut_back :
     (new held old part : List ℕ) (had : ℕ) → take (length held) new ≡ held → held ≡ old ++ part → had ≡ length old
     → take had new ≡ old
@@ -85,12 +85,12 @@ cut_back new held old part had e h l =
     let P : List ℕ → Type 0 = λ bs. take had bs ≡ old in
     subst P j (rw l (take-append-le (length old) old (part ++ rest) (omega arith) ∙ take-length old))
 
--- a beginning of some bytes, and the rest of them
+-- a prefix of some bytes, and the rest of them
 all_bytes : (held bytes : List ℕ) → held ≡ take (length held) bytes → held ++ drop (length held) bytes ≡ bytes
 all_bytes held bytes h =
     ap (λ bs. bs ++ drop (length held) bytes) h ∙ take-append-drop (length held) bytes
 
--- the body is the same in the beginning that is held
+-- the body is the same in the prefix that is held
 pub same_body :
     (held bytes : List ℕ) (from end : ℕ) → held ≡ take (length held) bytes → from ≤ end → end ≤ length held
     → slice_range held from end ≡ slice_range bytes from end
@@ -101,7 +101,7 @@ same_body held bytes from end h l m =
     take-append-le (end - from) (drop from held) rest (omega (arith, length-drop from held)) in
     sym (ap (λ bs. take (end - from) bs) d ∙ t) ∙ ap (λ bs. slice_range bs from end) (all_bytes held bytes h)
 
--- what was held before stands before all of the piece
+-- what was held before comes before all of the piece
 pub held_before :
     (held old piece : List ℕ) → held ≡ take (length held) (old ++ piece) → length old ≤ length held
     → take (length old) held ≡ old

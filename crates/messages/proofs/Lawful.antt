@@ -1,4 +1,4 @@
--- The laws that public functions carry.
+-- The laws that are contracts of public functions.
 use Rattle.std.proofs.Common.{◌≡◌, inl, inr, ℕ, Some, Ok, List, ◌++◌, length, take, drop, sym, subst, ◌∙◌, arith}
 use Rattle.std.proofs.lemmas.List.{length-take-le, take-append-drop}
 use Rattle.schema_meta.specs.Stage.{end_of}

@@ -1,4 +1,4 @@
--- The first message of some bytes, and what more bytes make of it.
+-- The first message of some bytes, and its reading with more bytes.
 use Rattle.std.proofs.Common.{
   ◌≡◌,
   ◌⊎◌,
@@ -119,7 +119,7 @@ pub whole_stays :
 whole_stays known bytes more w h =
     elim (first_stable known bytes more) [ inl n ↦ absurd (cc) | inr e ↦ e ∙ h ]
 
--- nor the faults that stand
+-- nor the faults
 pub faults_stay :
     (known : Known) (bytes more : List ℕ) (fs : Faults) → first known bytes ≡ Err fs
     → first known (bytes ++ more) ≡ Err fs

@@ -28,7 +28,7 @@ use Rattle.messages.proofs.Messages.{sizes_at}
 use Rattle.messages.proofs.AcrossLemmas.{across_found, across_is}
 use Rattle.messages.proofs.Facts.{meta_header}
 
--- the length of the body is the one that the metadata says
+-- the length of the body is the one that the metadata gives
 
 header-body : (known : Known) (t : Table) (k : MessageKind) (body : ℕ) (m : Meta) → header_of known t k body ≡ Ok m
     → body ≡ m.body
@@ -49,7 +49,7 @@ meta-body known bytes m e =
     let p = meta_header known bytes m e in
     (p.0, p.4, subst (λ (n : ℕ). body_of p.0 ≡ Ok n) (header-body known p.0 p.1 p.2 m p.3) p.5)
 
--- what is read of it alone is that, and no fault stands in it
+-- what is read from it alone is that, without a fault
 
 pub body-read : (known : Known) (bytes : List ℕ) (m : Meta) (root : Option Table) (t : Table) (n : ℕ)
     → root ≡ root_of bytes → must fault.BadTable root ≡ Ok t → body_of t ≡ Ok n → meta_of known bytes ≡ Ok m → n ≡ m.body

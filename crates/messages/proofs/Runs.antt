@@ -1,4 +1,4 @@
--- The messages of a stream, and what a push takes of them.
+-- The messages of a stream, and which of them a push returns.
 use Rattle.std.proofs.Common.{
   ◌≡◌,
   ℕ,

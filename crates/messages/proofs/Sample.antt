@@ -1,5 +1,5 @@
 -- A batch of two int64 columns with the rows (1, 10), (2, null), (3, 30), as another program wrote it: the definitions
--- answer what it says, and what each changed byte is the fault of.
+-- give what it means, and the fault of each changed byte.
 use Rattle.std.proofs.Common.{
   ◌≡◌,
   ℕ,
@@ -91,7 +91,7 @@ abbrev column : ℕ → Rose Entry
 column letter =
     node (record { name = letter ∷ []; nullable = true; stored = stored.Int int.Bits64 true; encoding = None }) none
 
--- a stream whose schema came, and one that nothing came of
+-- a stream whose schema was read, and one of which nothing was read
 abbrev open_stream : Known
 open_stream = record { declared = None; schema = Some (column 107 ∷ column 118 ∷ []); counts = [] }
 
@@ -127,7 +127,7 @@ unfolding number_at signed_at target_at bytes_at block_at place_of_vtable vtable
 taken = (refl, refl, refl, refl, refl, refl)
 
 -- the mark, the size, the version, the batch's length (which neither node has then), the count of buffers, a buffer's
--- place; a batch and an end mark before the schema
+-- offset; a batch and an end mark before the schema
 pub faults :
     (first open_stream (take 8 (slice_set message 0 254)) ≡ refused fault.NoContinuation)
     × (first open_stream (take 8 (slice_set message 7 1)) ≡ refused fault.BadSize)

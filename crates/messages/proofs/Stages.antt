@@ -1,5 +1,4 @@
--- The stages of framing, on numbers and on readings already made: more bytes change neither a whole message nor a
--- fault.
+-- The stages of framing, on numbers and on given readings: more bytes change neither a whole message nor a fault.
 use Rattle.std.proofs.Common.{
   ◌≡◌,
   ◌⊎◌,
@@ -30,7 +29,7 @@ use Rattle.values.specs.Reading.{Reading, ◌>>=◌}
 use Rattle.schema_meta.specs.Stage.{Meta, Whole, end_of}
 use Rattle.schema_meta.specs.Framing.{body_at, message_at, sized, staged}
 
--- a test on two numbers, with what it says
+-- a test on two numbers, with its result
 lt_test : (a b : ℕ) (t : Bool) → nat_lt a b ≡ t → ((nat_lt a b ≡ true) × (a < b)) ⊎ ((nat_lt a b ≡ false) × (b ≤ a))
 lt_test a b true e = inl (e, ltb-true a b e)
 lt_test a b false e = inr (e, ltb-false a b e)

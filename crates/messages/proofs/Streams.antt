@@ -79,7 +79,7 @@ some_of : {X : Type 0} (o : Option X) (P : X → Type 0) → IsSomeAnd o P → I
 some_of None P h = absurd h
 some_of (Some x) P h = refl
 
--- A message that fits comes where a schema is known.
+-- A message that fits is read where a schema is known.
 pub schema_known : (o : Option (List (Rose Entry))) (h : Header) (body : ℕ) → IsFitting o h body → IsSome o
 schema_known o header.Schema body fits = fits
 schema_known o (header.Dictionary d) body fits = some_of o (λ fields. FitsValues fields body d) fits
@@ -93,7 +93,7 @@ used_within known old piece used w e u =
     let within = first_within known (old ++ piece) w e in
     omega (arith, length-append old piece)
 
--- a message that becomes whole takes some bytes
+-- a message that becomes whole uses some bytes
 pub used_some :
     (known : Known) (old piece : List ℕ) (used : ℕ) (w : Whole) → first known old ≡ Ok None
     → first known (old ++ piece) ≡ Ok (Some w) → used + length old ≡ end_of w → 0 < used

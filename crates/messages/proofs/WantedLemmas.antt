@@ -1,4 +1,4 @@
--- How many bytes a message that isn't whole wants at least, stage by stage.
+-- How many bytes an incomplete message needs at least, stage by stage.
 use Rattle.std.proofs.Common.{
   ◌≡◌,
   inl,
@@ -131,7 +131,7 @@ message_wants known bytes n wanted h e z w =
           (same_sizes bytes more h ∙ e) z (w.short more l);
     }
 
--- where fewer bytes come than are wanted
+-- where fewer bytes come than are needed
 pub fewer_left :
     (known : Known) (held bytes : List ℕ) (wanted : ℕ) → Wants (followed known held) wanted → length bytes < wanted
     → Wants (followed known (held ++ bytes)) (wanted - length bytes)
@@ -149,14 +149,14 @@ pub fewer_none :
     → first known (held ++ bytes) ≡ Ok None
 fewer_none known held bytes wanted w h = w.short bytes h
 
--- what is said of the message is said of the bytes
+-- what holds of the message holds of the bytes
 pub message_awaits :
     (known : Known) (bytes : List ℕ) (n : ℕ) (p : Progress) → 8 ≤ length bytes → sizes_at bytes ≡ Ok n → 1 ≤ n
     → Awaits (followed_at known bytes (8 + n)) p → Awaits (followed known bytes) p
 message_awaits known bytes n (progress.Partial wanted) h e z w = message_wants known bytes n wanted h e z w
 message_awaits known bytes n (progress.Whole found) h e z w = tt
 
--- the bytes from place 4 on
+-- the bytes from offset 4 on
 pub tail_is : (bytes : List ℕ) → drop 4 bytes ≡ take (length bytes - 4) (drop 4 bytes)
 tail_is bytes = sym (ap (λ n. take n (drop 4 bytes)) (sym (length-drop 4 bytes)) ∙ take-length (drop 4 bytes))
 

@@ -13,14 +13,14 @@ abbrev pub counted : List (ℤ × ℕ) → Option Count → List (ℤ × ℕ)
 counted counts None = counts
 counted counts (Some c) = insert_entry int_eq counts c.id c.values
 
--- A batch leaves its dictionary with no more values than it may have.
+-- After a batch its dictionary has no more values than it may have.
 abbrev pub IsCounted : List (ℤ × ℕ) → Header → Type 0
 IsCounted counts header.Schema = Unit {0}
 IsCounted counts (header.Dictionary d) = count_after counts d.id d.is_delta d.batch.rows ≤ max_dictionary_values
 IsCounted counts (header.Batch b) = Unit {0}
 IsCounted counts header.End = Unit {0}
 
--- There is room to set a count, if one is to be set: for `room` more ids no memory is taken.
+-- There is capacity to set a count, if one is to be set: for `room` more ids no memory is taken.
 abbrev pub HasRoom : Option Count → ℕ → Type 0
 HasRoom None room = Unit {0}
 HasRoom (Some c) room = 0 < room

@@ -15,15 +15,15 @@ handed_on (Some m) later = m ∷ later
 abbrev pub End : Type 0
 End = Result Stream StreamFault
 
--- Feeding pieces to a stream hands on these messages and comes to this end. What a push leaves of a piece is pushed
--- next. A push that memory ran out in left the stream as it was, and doesn't count.
+-- Pushing pieces to a stream returns these messages and comes to this end. What a push leaves of a piece is pushed
+-- next. A push that was refused memory left the stream as it was, and doesn't count.
 pub data Feeds : Stream → List (List ℕ) → List MessageView → End → Type 0 where
-  -- No piece is left.
+  -- No piece remains.
   ended : (s : Stream) → Feeds s [] [] (Ok s)
-  -- Nothing is left of a piece.
+  -- Nothing remains of a piece.
   used_up : (s : Stream) (pieces : List (List ℕ)) (messages : List MessageView) (end : End)
       → Feeds s pieces messages end → Feeds s ([] ∷ pieces) messages end
-  -- A push takes some of a piece.
+  -- A push uses some of a piece.
   pushed :
       (old new : Stream) (piece : List ℕ) (pieces : List (List ℕ)) (f : Framed) (messages : List MessageView)
       (end : End) → Frames (first old.known (old.held ++ piece)) old piece f new

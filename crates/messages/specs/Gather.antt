@@ -1,4 +1,4 @@
--- How a piece is taken: all bytes so far are those that were held, followed by the piece.
+-- How a piece is appended: all bytes so far are those that were held, followed by the piece.
 use Rattle.std.specs.Prelude.{◌≡◌, ℕ, ◌+◌, ◌≤◌, List, ◌++◌, length, take, slice_range, Option, None, Some, Ok}
 use Rattle.values.specs.Reading.{Reading}
 use Rattle.messages.specs.declared.gather.Step.{Step}
@@ -13,7 +13,7 @@ use Rattle.schema_meta.specs.Framing.{first}
 abbrev pub first_with : State → List ℕ → List ℕ → Reading (Option Whole)
 first_with s held piece = first (known_of s) (held ++ piece)
 
--- After it all bytes are held where no message is complete, else a beginning of them that has the message.
+-- Afterwards all bytes are held where no message is complete, else a prefix of them that has the message.
 abbrev pub Gathers : Option Whole → List ℕ → List ℕ → Type 0
 Gathers None bytes held = held ≡ bytes
 Gathers (Some w) bytes held = (held ≡ take (length held) bytes) × (end_of w ≤ length held)

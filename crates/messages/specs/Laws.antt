@@ -22,13 +22,13 @@ WholeStays =
 abbrev pub WholeWithin : Type 0
 WholeWithin = (known : Known) (bytes : List ℕ) (w : Whole) → first known bytes ≡ Ok (Some w) → end_of w ≤ length bytes
 
--- A fault that stands does so whatever follows.
+-- A fault is there whatever follows.
 abbrev pub FaultStays : Type 0
 FaultStays =
     (known : Known) (bytes more : List ℕ) (c : StreamFault) → FailsWith (first known bytes) c
     → FailsWith (first known (bytes ++ more)) c
 
--- Nor does another fault come to stand beside it.
+-- Nor is another fault added.
 abbrev pub FaultsStay : Type 0
 FaultsStay =
     (known : Known) (bytes more : List ℕ) (fs : Faults) → first known bytes ≡ Err fs
@@ -55,7 +55,7 @@ pub record FirstMessageLaw : Type 0 where
   pub message : MessageLaw
 
 -- A push changes nothing of the messages of a stream: those of what was held, the piece and all that comes later are
--- the one that the push hands on, if it does, and those of what is held then, the rest of the piece and all that comes
+-- the one that the push returns, if it does, and those of what is held then, the rest of the piece and all that comes
 -- later.
 abbrev pub PushKeepsRun : Type 0
 PushKeepsRun =
@@ -70,20 +70,20 @@ RefusalEndsRun =
     (n : ℕ) (old : Stream) (piece later : List ℕ) (c : StreamFault) → FailsWith (first old.known (old.held ++ piece)) c
     → FailsWith (message_sequence (suc n) old.known (old.held ++ (piece ++ later))).rest c
 
--- these messages and this end are those of a run
+-- these messages and this end are those of a sequence
 pub record Follows (messages : List MessageView) (end : End) (r : MessageSequence) : Type 0 where
   pub same : r.messages ≡ messages
   pub left : Yields (λ s. s) end r.rest
 
--- Feeding pieces hands on the messages of all the bytes, and leaves what the bytes leave, or a refusal names a fault at
--- which they end.
+-- Pushing pieces returns the messages of all the bytes, and leads to the same stream as these, or a refusal names a
+-- fault at which they end.
 abbrev pub FeedFollowsRun : Type 0
 FeedFollowsRun =
     (old : Stream) (pieces : List (List ℕ)) (messages : List MessageView) (end : End)
     → first old.known old.held ≡ Ok None → Feeds old pieces messages end
     → Follows messages end (whole_sequence old.known (old.held ++ concat pieces))
 
--- the same is left, or both refusals name faults of the same set
+-- both lead to the same, or both refusals name faults of the same set
 abbrev pub AgreeIn : {S : Type 0} → Reading S → Result S StreamFault → Result S StreamFault → Type 0
 AgreeIn rest (Ok s) (Ok t) = s ≡ t
 AgreeIn rest (Err c) (Err d) = FailsWith rest c × FailsWith rest d

@@ -1,4 +1,4 @@
--- The messages of a stream as a whole: what is read of all its bytes at once.
+-- The messages of a stream as a whole: what is read from all its bytes at once.
 use Rattle.std.specs.Prelude.{ℕ, zero, suc, List, [], ◌∷◌, length, drop, Option, None, Some, Ok, Err}
 use Rattle.values.specs.Reading.{Reading}
 use Rattle.messages.specs.Handed.{MessageView}
@@ -7,7 +7,7 @@ use Rattle.schema_meta.specs.Sound.{after}
 use Rattle.schema_meta.specs.Framing.{first}
 use Rattle.messages.specs.Stream.{Stream, message_of}
 
--- messages, and then what is known and left, or the faults that stand there
+-- messages, and then what is known and the bytes that remain, or the faults at which they end
 pub record MessageSequence : Type 0 where
   pub messages : List MessageView
   pub rest : Reading Stream
@@ -18,7 +18,7 @@ led_by m r = record { messages = m ∷ r.messages; rest = r.rest }
 abbrev pub stopped : Reading Stream → MessageSequence
 stopped rest = record { messages = []; rest = rest }
 
--- after the first message, where `later` reads what stands after it
+-- after the first message, where `later` reads what comes after it
 abbrev pub sequence_after : (Known → List ℕ → MessageSequence) → Known → List ℕ → Reading (Option Whole) → MessageSequence
 sequence_after later known bytes (Ok None) = stopped (Ok (record { known = known; held = bytes }))
 sequence_after later known bytes (Ok (Some w)) =
@@ -34,7 +34,7 @@ message_sequence (suc n) known bytes = sequence_after (message_sequence n) known
 abbrev pub whole_sequence : Known → List ℕ → MessageSequence
 whole_sequence known bytes = message_sequence (length bytes) known bytes
 
--- the run that begins with a message, if there is one; `r` reads a number of messages
+-- the sequence that begins with a message, if there is one; `r` reads a number of messages
 abbrev pub sequence_past : Option MessageView → (ℕ → MessageSequence) → ℕ → MessageSequence
 sequence_past None r n = r (suc n)
 sequence_past (Some m) r n = led_by m (r n)

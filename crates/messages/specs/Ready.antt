@@ -1,4 +1,4 @@
--- What a framer keeps of a stream, and of a piece that was prepared.
+-- What a framer stores of a stream, and of a piece that was prepared.
 use Rattle.std.specs.Prelude.{◌≡◌, ℕ, ◌≤◌, List, [], length, take, None, Ok}
 use Rattle.std.specs.Option.{option_map}
 use Rattle.messages.specs.declared.pending.Pending.{Pending}
@@ -10,7 +10,7 @@ use Rattle.messages.specs.State.{IsRead, learnt}
 use Rattle.messages.specs.Wanted.{Wants, followed}
 use Rattle.messages.specs.Stream.{Stream, IsStream}
 
--- The bytes of a message that is not whole yet are the first ones.
+-- The bytes of an incomplete message are the first ones.
 abbrev pub standing : Known → List ℕ → ℕ → Stream
 standing known bytes len = record { known = known; held = take len bytes }
 

@@ -22,7 +22,7 @@ known_of s =
       counts = s.counts.entries;
     }
 
--- what is known after a message that brings this schema, if any, and sets this count, if any
+-- what is known after a message that has this schema, if any, and sets this count, if any
 abbrev pub learnt : Known → Option (List (Rose Entry)) → Option Count → Known
 learnt known brought count =
     record {
@@ -41,7 +41,7 @@ abbrev pub progress_seen : Progress → Option Whole
 progress_seen (progress.Partial n) = None
 progress_seen (progress.Whole f) = Some (whole_seen f)
 
--- The fields of the schema, if one is known, keep what reading it checks (`AreFields`).
+-- The fields of the schema, if one is known, obey what reading it checks (`AreFields`).
 abbrev pub IsRead : Option (List (Rose Entry)) → Type 0
 IsRead None = Unit {0}
 IsRead (Some fields) = AreFields fields

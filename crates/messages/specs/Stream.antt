@@ -1,4 +1,4 @@
--- A stream between two pieces, what a push makes of it, and the stream after a prepared piece.
+-- A stream between two pieces, what a push does to it, and the stream after a prepared piece.
 use Rattle.std.specs.Prelude.{
   ◌≡◌,
   ℕ,
@@ -32,7 +32,7 @@ use Rattle.messages.specs.State.{IsRead}
 use Rattle.messages.specs.Wanted.{Wants, followed}
 use Rattle.schema_meta.specs.Framing.{first}
 
--- what is known of it, and the bytes of a message that is not whole yet
+-- what is known of it, and the bytes of an incomplete message
 pub record Stream : Type 0 where
   pub known : Known
   pub held : List ℕ
@@ -61,17 +61,17 @@ framer_code =
     code_by (Stream × Stream) (coded× stream_code stream_code) (λ f. (f.current, f.prepared))
     (λ p. record { current = p.0; prepared = p.1 }) (λ _. refl)
 
--- what is held is no whole message, and has no fault, nor do fewer than `wanted` bytes more make it one
+-- the held bytes are no whole message, and have no fault, nor do fewer than `wanted` bytes more complete one
 pub record IsStream (known : Known) (held : List ℕ) (wanted : ℕ) : Type 0 where
   pub partial : first known held ≡ Ok None
   pub small : IsRead known.schema
   pub wants : Wants (followed known held) wanted
 
--- a stream of which nothing has come; these columns are declared for it, if any are
+-- a stream of which nothing was read; these columns are declared for it, if any are
 abbrev pub opened : Option (List (Rose NamedType)) → Stream
 opened declared = record { known = before declared; held = [] }
 
--- a message that is handed on, out of all bytes
+-- a message that is returned, out of all bytes
 abbrev pub message_of : Known → Whole → List ℕ → MessageView
 message_of known w bytes =
     record {
@@ -81,7 +81,7 @@ message_of known w bytes =
     }
 
 -- What a push answers, where the first message of what was held and the piece is this: without a message all of the
--- piece is held, and a message is handed on.
+-- piece is held, else the message is returned.
 abbrev pub Frames : Reading (Option Whole) → Stream → List ℕ → Framed → Stream → Type 0
 Frames (Ok None) old piece f new =
     (f.used ≡ length piece) × (f.message ≡ None) × (new ≡ record { known = old.known; held = old.held ++ piece })
@@ -94,15 +94,15 @@ Frames (Err fs) old piece f new = ⊥
 abbrev pub first_in : Stream → List ℕ → Reading (Option Whole)
 first_in s piece = first s.known (s.held ++ piece)
 
--- A push of the piece answers this, and the stream stands there then.
+-- A push of the piece answers this, and leads to this stream.
 abbrev pub Takes : Stream → List ℕ → Framed → Stream → Type 0
 Takes old piece f new = Frames (first_in old piece) old piece f new
 
--- No byte was taken, and there is no message.
+-- No byte was used, and there is no message.
 abbrev pub IsNothing : Framed → Type 0
 IsNothing f = (f.used ≡ 0) × (f.message ≡ None)
 
--- A message that is handed on has the schema that is known then, and fits it.
+-- A message that is returned has the schema that is known then, and fits it.
 abbrev pub HasSchema : Option (List (Rose Entry)) → Framed → Type 0
 HasSchema schema f = IfSome f.message (λ m. schema ≡ Some m.schema)
 

@@ -30,7 +30,7 @@ use schema_meta::message_fbs::{BATCH_BUFFERS, BATCH_COMPRESSION, BATCH_LENGTH, B
 use values::StreamFault;
 use values::limits::{MAX_BATCH_LENGTH, MAX_NODE_LENGTH};
 
-/// The number of 64 bits at `place`, read without a sign.
+/// The number of 64 bits at offset `place`, read without a sign.
 #[tactic(auto, unfolding(schema_meta::specs::Batch::long_at))]
 fn long_at(bytes: &[u8], place: usize) -> u64
     requires { place + 8 ≤ length bytes.now }
@@ -112,7 +112,7 @@ fn ranges_in(
     Ok(ranges)
 }
 
-/// The bytes of a vector of `count` structs of 16 bytes; another number of them is `fault`. An absent vector is an
+/// The bytes of a vector of `count` structs of 16 bytes; any other number of bytes is `fault`. An absent vector is an
 /// empty one.
 fn structs<'a>(
     table: &TableRef<'a>,

@@ -1,4 +1,4 @@
-//! The arrays that a batch must have: one a column, or one of dictionary values.
+//! The arrays that a batch must have: one for each column, or one of dictionary values.
 
 ghost use Rattle.std.specs.Prelude.{◌≡◌, ◌≤◌, length};
 ghost use Rattle.values.specs.Rose.{roses_size};

@@ -14,7 +14,7 @@ pub(crate) struct Count {
     pub values: usize,
 }
 
-/// How many values of its dictionary stay when a batch comes: none unless it is a delta.
+/// How many values of its dictionary remain when a batch is read: none unless it is a delta.
 pub(crate) fn count_before(counts: &IndexMap<i64, usize>, header: &DictionaryHeader) -> usize
     ensures { result ≡ (if header.now.is_delta then count_of counts.now.entries header.now.id else 0) }
 {

@@ -30,7 +30,7 @@ pub(crate) struct Found {
 /// Whether the first message of some bytes is complete.
 #[derive(Drop)]
 pub(crate) enum Progress {
-    /// Bytes are missing. Fewer than `wanted` further bytes, whatever they are, neither complete it nor show a fault.
+    /// Bytes are missing. Fewer than `wanted` further bytes, whatever they are, neither complete it nor reveal a fault.
     Partial { wanted: usize },
     Whole(Found),
 }
@@ -95,8 +95,8 @@ fn message_at(
     Ok(Progress::Whole(Found { front, metadata }))
 }
 
-/// Parses the first message, or `Partial` if bytes are missing. A fault is reported once the bytes that show it have
-/// arrived.
+/// Parses the first message, or `Partial` if bytes are missing. A fault is reported once the bytes that reveal it are
+/// there.
 #[tactic(auto, using(values::proofs::Readings::failing, crate::proofs::WantedLemmas::first_wanting), unfolding(schema_meta::specs::Framing::first, schema_meta::specs::Framing::staged))]
 pub(crate) fn first(
     lists: &mut HeaderLists,
@@ -141,8 +141,8 @@ fn metadata_held(bytes: &[u8]) -> Option<usize>
     }
 }
 
-/// How many bytes are missing of the incomplete message that these bytes begin, where they have all its metadata; 0 where
-/// they don't.
+/// How many bytes are missing of the incomplete message that these bytes begin, where they have all its metadata; 0
+/// where they don't.
 pub(crate) fn missing(bytes: &[u8]) -> usize
     ensures { (known : Known) → first known bytes.now ≡ Ok None → IsMissing known bytes.now result }
 {

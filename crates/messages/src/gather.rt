@@ -57,7 +57,7 @@ fn grow(
 }
 
 /// Appends the piece to the held bytes, up to the end of the first message or all of it. No more is copied than the
-/// message is known to want; `wanted` is what it was known to want before.
+/// message is known to need; `wanted` is what it was known to need before.
 #[tactic(auto, using(crate::proofs::GatherLemmas::gathers))]
 fn gather(
     lists: &mut HeaderLists,
@@ -95,7 +95,7 @@ fn gather(
     Ok(Progress::Partial { wanted })
 }
 
-/// The result of taking a piece.
+/// The result of appending a piece.
 #[derive(Drop)]
 pub(crate) enum Step {
     /// All of the piece is held, and no message is complete. Fewer than `wanted` further bytes don't change that.
@@ -110,7 +110,7 @@ pub(crate) enum Step {
     },
 }
 
-/// Takes the message with which a piece begins, where nothing is held: its body is copied out of the piece.
+/// Reads the message with which a piece begins, where no bytes are held: its body is copied out of the piece.
 fn take_whole(alloc: Global, state: &State, found: Found, piece: &[u8]) -> Result<Step, StreamFault>
     requires found { first (known_of state.now) piece.now ≡ Ok (Some (whole_seen found)) }
     requires within { found.front + found.metadata.body ≤ length piece.now }
@@ -126,7 +126,7 @@ fn take_whole(alloc: Global, state: &State, found: Found, piece: &[u8]) -> Resul
     })
 }
 
-/// Takes the message that the piece completes, whose metadata is held: its body is copied out of both.
+/// Reads the message that the piece completes, whose metadata is held: its body is copied out of both.
 #[tactic(auto, using(crate::proofs::AcrossLemmas::taking))]
 fn take_across(
     alloc: Global,
@@ -182,8 +182,8 @@ fn advance_held(
 }
 
 /// Looks for a message in the held bytes and the piece. Afterwards all of the piece is held, or nothing if it completed
-/// a message. Where nothing is held, a message that the piece holds whole is read where it lies; where its metadata is
-/// held, and the piece completes it, the rest of its body is.
+/// a message. A message that the piece contains whole, where no bytes are held, is read from the piece; and where its
+/// metadata is held and the piece completes it, so is the rest of its body.
 #[tactic(auto, using(crate::proofs::Messages::first_within))]
 pub(crate) fn advance(
     lists: &mut HeaderLists,

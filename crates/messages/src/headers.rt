@@ -7,7 +7,7 @@ use std::rc::Rc;
 /// A complete message, whose header was checked against the schema and the length of the body.
 #[derive(Drop)]
 pub struct Message {
-    /// The schema of the stream: the one that this message brings, or that came before it.
+    /// The schema of the stream: that of this message, or one that was read before it.
     pub schema: Rc<StreamSchema>,
     pub header: Header,
     /// The body, in which the buffers of a batch lie. A Schema message may have a body too, which has no meaning.
@@ -27,7 +27,7 @@ impl Model for Message {
 /// The result of a push.
 #[derive(Drop)]
 pub struct Framed {
-    /// The number of bytes taken of the piece: up to the end of the message, or all.
+    /// The number of bytes of the piece that were used: up to the end of the message, or all.
     pub used: usize,
     /// The message that the piece completes, if it does.
     pub message: Option<Message>,

@@ -16,8 +16,8 @@ ghost use Rattle.messages.specs.Laws.{
   WholeWithin,
 };
 
-/// Bytes that come later change neither a complete message nor the faults that stand, so neither depends on where the
-/// input is cut; and a message is complete as soon as its own bytes are there.
+/// Later bytes change neither a complete message nor the faults, so neither depends on where the input is cut; and a
+/// message is complete as soon as its own bytes are there.
 #[tactic(auto, using(crate::proofs::Lawful::laws))]
 pub fn more_bytes_law()
     ensures whole { WholeStays }
@@ -28,9 +28,9 @@ pub fn more_bytes_law()
     ensures none { NothingYet }
 {}
 
-/// However a stream is cut into pieces, pushing them hands on the messages of its bytes, and a refusal names a fault at
+/// However a stream is cut into pieces, pushing them returns the messages of its bytes, and a refusal names a fault at
 /// which they end: `push` and `refusal` say it of one push, `feed` of a list of pieces, and `cuts` that two lists with
-/// the same bytes come to the same.
+/// the same bytes give the same.
 #[tactic(auto, using(crate::proofs::Feedings::run_laws))]
 pub fn pieces_law()
     ensures push { PushKeepsRun }
@@ -40,8 +40,8 @@ pub fn pieces_law()
     ensures end { FeedsEnd }
 {}
 
-/// A message that is found whole lies within the bytes. A schema comes once, with its columns within the limits, and no
-/// other message brings one.
+/// A message that is found whole lies within the bytes. There is one Schema message, with columns within the limits,
+/// and no other message has a schema.
 #[tactic(auto, using(crate::proofs::Brings::message_laws))]
 pub fn message_law()
     ensures { MessageLaw }

@@ -1,4 +1,4 @@
-//! The lists of headers that were given back: the next header is read into them.
+//! The lists of headers that were returned for reuse: the next header is read into them.
 
 ghost use Rattle.std.specs.Prelude.{◌≡◌, []};
 
@@ -24,7 +24,7 @@ impl HeaderLists {
         }
     }
 
-    /// The list of nodes, with nothing in it.
+    /// The list of nodes, emptied.
     pub(crate) fn take_nodes(&mut self) -> Vec<FieldNode>
         ensures { result.items ≡ [] }
     {
@@ -33,7 +33,7 @@ impl HeaderLists {
         nodes
     }
 
-    /// The list of buffer ranges, with nothing in it.
+    /// The list of buffer ranges, emptied.
     pub(crate) fn take_ranges(&mut self) -> Vec<BufferRange>
         ensures { result.items ≡ [] }
     {
@@ -48,7 +48,7 @@ impl HeaderLists {
         self.ranges = ranges;
     }
 
-    /// Takes the lists of a header.
+    /// Takes the lists of a header for reuse.
     pub(crate) fn give(&mut self, header: Header) {
         match header {
             Header::Dictionary(dictionary) => self.give_batch(dictionary.batch),

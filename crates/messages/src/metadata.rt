@@ -45,7 +45,7 @@ pub(crate) struct Metadata {
     pub header: Header,
     /// The length of the body in bytes.
     pub body: usize,
-    /// The schema that the message brings, if it is one.
+    /// The schema in the message, if it is a Schema message.
     pub schema: Option<Rc<StreamSchema>>,
 }
 
@@ -187,7 +187,7 @@ fn read_header(
     }
 }
 
-/// The length of the body, by metadata in which no fault stands.
+/// The length of the body, by metadata that has no fault.
 pub(crate) fn body_length(bytes: &[u8]) -> usize
     ensures { (known : Known) (m : Meta) → meta_of known bytes.now ≡ Ok m → result ≡ m.body }
 {
@@ -200,7 +200,7 @@ pub(crate) fn body_length(bytes: &[u8]) -> usize
     }
 }
 
-/// Reads the metadata of the message that comes after those by which `state` is what it is.
+/// Reads the metadata of the message that comes after those that led to `state`.
 #[tactic(auto, using(values::proofs::Readings::failing), unfolding(schema_meta::specs::Message::meta_of))]
 pub(crate) fn read_metadata(
     lists: &mut HeaderLists,

@@ -9,11 +9,11 @@ use std::rc::Rc;
 pub(crate) enum Pending {
     /// Nothing was prepared.
     Nothing,
-    /// All of the piece is held. Fewer than `wanted` further bytes neither complete a message nor show a fault.
+    /// All of the piece is held. Fewer than `wanted` further bytes neither complete a message nor reveal a fault.
     Piece {
         wanted: usize,
     },
-    /// A message was returned. It may bring a schema or set the count of a dictionary's values; nothing is held after
+    /// A message was returned. It may have a schema or set the count of a dictionary's values; no bytes are held after
     /// it.
     Message {
         schema: Option<Rc<StreamSchema>>,

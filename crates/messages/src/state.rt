@@ -15,8 +15,8 @@ use std::alloc::AllocError;
 use std::rc::Rc;
 use values::Schema;
 
-/// The schema that was declared for the stream, if any; the one that came, once it has; and how many values each
-/// dictionary has for which a batch came, by id.
+/// The schema that was declared for the stream, if any; the one that was read, if it was; and by id how many values
+/// each dictionary has for which a batch was read.
 #[derive(Drop)]
 pub(crate) struct State {
     pub declared: Option<Schema>,
@@ -25,7 +25,8 @@ pub(crate) struct State {
 }
 
 impl State {
-    /// How many values a dictionary has after a message, if that is a dictionary batch. It makes the room for `learn`.
+    /// How many values a dictionary has after a message, if that is a dictionary batch. It reserves the memory for
+    /// `learn`.
     pub(crate) fn count(&mut self, header: &Header) -> Result<Option<Count>, AllocError>
         requires { IsCounted (known_of self.old).counts header.now }
         ensures same { known_of self.new ≡ known_of self.old }
@@ -40,7 +41,7 @@ impl State {
         Ok(count)
     }
 
-    /// The schema of the stream after a message that brings `brought`, or none.
+    /// The schema of the stream after a message that has the schema `brought`, or none.
     pub(crate) fn schema_after(
         &self,
         brought: &Option<Rc<StreamSchema>>,
@@ -57,7 +58,7 @@ impl State {
         }
     }
 
-    /// Records what a message brings: a schema, or a new count of a dictionary's values. It takes no memory.
+    /// Records the schema of a message, or a new count of a dictionary's values. It takes no memory.
     pub(crate) fn learn(&mut self, schema: Option<Rc<StreamSchema>>, count: Option<Count>)
         requires { HasRoom count (spare self.old.counts) }
         ensures { known_of self.new

@@ -29,10 +29,10 @@ use values::{Schema, StreamFault};
 pub struct Framer {
     lists: HeaderLists,
     state: State,
-    // The first `len` are those of an incomplete message. What comes after them is of a prepared piece.
+    // The first `len` are those of an incomplete message. What comes after them belongs to a prepared piece.
     bytes: Vec<u8>,
     len: usize,
-    // Fewer further bytes than this neither complete the message nor show a fault.
+    // Fewer further bytes than this neither complete the message nor reveal a fault.
     wanted: usize,
     pending: Pending,
 }
@@ -57,7 +57,7 @@ impl Model for Framer {
 }
 
 impl Framer {
-    /// Opens a framer for a stream of which nothing has come. Where a schema is declared the stream's must have the
+    /// Opens a framer for a stream of which nothing was read. Where a schema is declared the stream's must have the
     /// same logical columns, and is otherwise refused as `SchemaMismatch`.
     pub fn open(alloc: Global, declared: Option<Schema>) -> Framer
         ensures current { result.current ≡ opened (option_map (λ s. s.fields.items) declared) }
@@ -77,7 +77,7 @@ impl Framer {
         }
     }
 
-    /// The schema, once it has come.
+    /// The schema, once it was read.
     pub fn schema(&self) -> Option<&Rc<StreamSchema>>
         ensures { option_map (λ s. s.now.value.fields.items) result ≡ self.now.current.known.schema }
     {
@@ -107,8 +107,9 @@ impl Framer {
         drop(replace(&mut self.pending, Pending::Nothing));
     }
 
-    /// Checks the piece up to the end of the first message that it completes, or all of it, and makes the room that
-    /// `commit` then needs. The stream stays as it is. A change that was prepared before and not committed is dropped.
+    /// Checks the piece up to the end of the first message that it completes, or all of it, and reserves the memory
+    /// that `commit` then needs. The stream stays as it is. A change that was prepared before and not committed is
+    /// dropped.
     ///
     /// The error is a fault of the framing or of the metadata, or `Memory`; nothing is prepared then. A fault of the
     /// framing is reported once 8 bytes of a message are there, one of the metadata once all of the metadata is.
@@ -183,8 +184,8 @@ impl Framer {
         }
     }
 
-    /// Takes back a header that is no longer needed: the next one is read into its lists, and asks for no memory for them
-    /// where they are long enough.
+    /// Takes a header that is no longer needed, so that its lists are reused: the next header is read into them, and
+    /// takes no memory for them where they are long enough.
     pub fn take_back(&mut self, header: Header)
         ensures same { self.new.current ≡ self.old.current }
         ensures prepared { self.new.prepared ≡ self.old.prepared }
@@ -192,7 +193,7 @@ impl Framer {
         self.lists.give(header);
     }
 
-    /// Takes the piece up to the end of the first message that it completes, or all of it: `prepare`, and then
+    /// Consumes the piece up to the end of the first message that it completes, or all of it: `prepare`, and then
     /// `commit`. On an error, which is one of `prepare`, the stream stays as it is.
     pub fn push(&mut self, piece: &[u8]) -> Result<Framed, StreamFault>
         ensures ok { IfOk result (λ f. Takes self.old.current piece.now f self.new.current) }

@@ -41,7 +41,7 @@ const SAMPLE: [u8; 504] = [
     0xFF, 0xFF, 0xFF, 0xFF, 0x00, 0x00, 0x00, 0x00,
 ];
 
-/// What a message is, in short.
+/// The kind of a message, as a number.
 fn kind(header: &Header) -> u8 {
     match header {
         Header::Schema => 1,
@@ -53,7 +53,7 @@ fn kind(header: &Header) -> u8 {
 
 /// How much of a piece is used, and the kind of the message that it completes.
 ///
-/// This and what calls it promise nothing, so that what is proved of a test doesn't grow with each call.
+/// This and what it calls have no contract, so that what is proved of a test doesn't grow with each call.
 fn told(framed: Framed) -> (usize, Option<u8>) {
     let Framed { used, message } = framed;
     let Some(message) = message else {
@@ -107,7 +107,7 @@ fn whole(rt: HostRuntime) -> Result<(), Fail> {
     Ok(())
 }
 
-/// The header of the batch is read into the lists of the one before, which was taken back.
+/// The header of the batch is read into the lists of the one before, which was returned for reuse.
 #[test]
 fn takes_a_header_back(rt: HostRuntime) -> Result<(), Fail> {
     let mut framer = Framer::open(rt.alloc(), None);
@@ -135,7 +135,7 @@ fn in_pieces_of_one_byte(rt: HostRuntime) {
     assert!(rt; framer.schema().is_some());
 }
 
-/// A body of 65,592 bytes that comes in pieces of 64 is handed on whole.
+/// A body of 65,592 bytes that comes in pieces of 64 is returned whole.
 #[test]
 fn long_body_in_pieces(rt: HostRuntime) -> Result<(), Fail> {
     let mut bytes = SAMPLE;

@@ -171,7 +171,7 @@ count_added (x ∷ xs) ks = by x.live (count_added xs ks)
     by true h = omega (arith, h)
     by false h = h
 
--- No key of a row that comes is null.
+-- No key of a row that is added is null.
 given_added : (xs : List Numbered) (ks : List Key) → AreGiven xs → has_null (map datum_of_key ks) ≡ false
     → AreGiven (xs ++ map fresh ks)
 unfolding has_null
@@ -266,7 +266,7 @@ many_same t stored xs columns n b is h =
     (keyed_length t stored xs is.keyed).1
     ∙ ap (λ m. are_many t.max_rows (live_count xs) (length xs) m) (batch_counted columns n) ∙ h
 
--- A batch whose keys are pushed, and what is said of its rows
+-- A batch whose keys are pushed, and what holds of its rows
 module _ {t : Table} {stored : List (List Datum)} {xs new : List Numbered} {columns : List CheckedColumn} {n : ℕ}
     (is : IsStored t stored xs) (batch : IsBatch t n columns)
     (pushed : PushesKeys (keys_in t (batch_rows n columns)) xs new) where

@@ -1,4 +1,4 @@
--- What is said of a key column's cells is said of the keys of the rows.
+-- What holds of a key column's cells holds of the keys of the rows.
 use Rattle.std.proofs.Common.{◌≡◌, ℕ, List, [], Vec, subst}
 use Rattle.std.specs.Prelude.{IfErr, IfOk, OnOk, Result}
 use Rattle.std.specs.declared.alloc.Global.{Global}

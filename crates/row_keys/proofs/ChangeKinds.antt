@@ -1,4 +1,4 @@
--- Of which tables a change can be.
+-- The tables that a change can be of.
 use Rattle.std.proofs.Common.{ℕ, zero, suc, IfOk}
 use Rattle.std.specs.Prelude.{Err, Ok, Result}
 use Rattle.row_keys.specs.TableChanges.{IsChangeOf}

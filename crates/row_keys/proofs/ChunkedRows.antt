@@ -1,4 +1,4 @@
--- The rows of all numbers, when chunks come, go, and are changed.
+-- The rows of all numbers, when chunks are added, removed, and changed.
 use Rattle.std.proofs.Common.{◌≡◌, inl, inr, ℕ, zero, suc, ◌+◌, ◌-◌, ◌<◌, ◌≤◌, Bool, true, false, All, Some, List, [], ◌∷◌, ◌++◌, filter, get_or, length, length-append, take, refl, ap, sym, subst, ◌∙◌, append-nil, arith, min, true≢false}
 use Rattle.std.specs.Prelude.{if◌then◌else◌, nat_le, replicate, slice_get, slice_set}
 use Rattle.std.specs.List.Sorted.{IsPartitionPoint, IsPartitionedBy}
@@ -60,9 +60,9 @@ stored_at cs len n are = elim (lt_or_le n len) [
 pub stored_long : (cs : List Chunk) (len : ℕ) → length (stored_rows cs len) ≡ len
 stored_long cs len = listed_long (row_in cs) 0 len
 
--- Rows come.
+-- Rows are added.
 
--- flags of rows of which none is gone
+-- flags of rows of which none is released
 pub flag_at : (n i : ℕ) → i < n → get_or (replicate n false) i true ≡ false
 flag_at zero i below = absurd (omega (arith, below))
 flag_at (suc n) zero below = refl
@@ -136,7 +136,7 @@ chunks_come cs all len n m columns gone are long flags is more =
     × (stored_rows (cs ++ fresh len n columns ∷ []) k ≡ stored_rows cs len ++ batch_rows n columns) in
     subst P (sym whole) (subst Q (sym more) (fresh_chunks cs len n columns are long, rows_come cs len n columns are))
 
--- A row goes.
+-- A row is released.
 
 flag_set : (gs : List Bool) (i : ℕ) → i < length gs → get_or (slice_set gs i true) i true ≡ true
 flag_set [] i below = absurd (omega (arith, below))
@@ -253,7 +253,7 @@ row_goes cs all len n p i are at is =
           gone,
     )
 
--- a row that isn't there
+-- a row that doesn't exist
 pub none_goes : (cs : List Chunk) (len n : ℕ) → row_in cs n ≡ [] → stored_rows cs len ≡ slice_set (stored_rows cs len) n []
 none_goes cs len n none =
     let number : 0 + n ≡ n = omega arith in
@@ -267,7 +267,7 @@ rows_swept cs len are = (
   listed_same (row_in (filter has_columns cs)) (row_in cs) 0 len (λ i low high. (swept 0 len i cs are).1),
 )
 
--- The last rows go.
+-- The last rows are removed.
 pub rows_cut : (cs all : List Chunk) (len m : ℕ) → m ≤ len → IsCut cs m all
     → stored_rows all m ≡ take m (stored_rows cs len)
 rows_cut cs all len m le is =
@@ -277,7 +277,7 @@ rows_cut cs all len m le is =
 pub rows_whole : (cs : List Chunk) (len m : ℕ) → len ≤ m → stored_rows cs len ≡ take m (stored_rows cs len)
 rows_whole cs len m le = sym (listed_whole (row_in cs) 0 len m le)
 
--- what is left to cut
+-- what remains to be removed
 pub record IsCutSoFar (old : List Chunk) (len : ℕ) (now : List Chunk) : Type 0 where
   pub end : ℕ
   pub chunks : AreChunks 0 now end
@@ -586,13 +586,13 @@ row_read cs n p i c at is =
 pub lies_within : (cs : List Chunk) (n p : ℕ) → LiesIn cs n p → p < length cs
 lies_within cs n p lies = slice_get_within cs p lies.chunk lies.there
 
--- no row comes
+-- no row is added
 pub none_come : (rows : List (List Datum)) (n : ℕ) (columns : List CheckedColumn) → n ≡ 0
     → rows ≡ rows ++ batch_rows n columns
 unfolding rows_from
 none_come rows n columns none = sym (append-nil rows) ∙ ap (λ m. rows ++ batch_rows m columns) (sym none)
 
--- what is left of a list whose last chunk goes
+-- the rest of a list whose last chunk is removed
 pub popped : (now new front : List Chunk) (c : Chunk) (n : ℕ) → n ≡ length now → new ≡ take (n - 1) now
     → now ≡ front ++ c ∷ [] → now ≡ new ++ c ∷ []
 popped now new front c n long rest split =

@@ -1,4 +1,4 @@
--- Live rows that are retracted, and come back where they were.
+-- Live rows that are retracted, and restored where they were.
 use Rattle.std.proofs.Common.{◌≡◌, refl, ap, sym, ◌∙◌, subst}
 use Rattle.std.specs.Prelude.{ℕ, zero, suc, Bool, true, false, cond, List, [], ◌∷◌, Some, None}
 use Rattle.std.specs.List.{AllByRecursion, IsDistinct}

@@ -177,7 +177,7 @@ length_marked b [] n = refl
 length_marked b (s ∷ ss) zero = refl
 length_marked b (s ∷ ss) (suc n) = ap suc (length_marked b ss n)
 
--- rows that are put back
+-- rows that are restored
 
 pub put_back_emptied : (ns : List ℕ) (slots : List Slot) (n : ℕ) → Spares n ns
     → put_back ns (emptied slots n) ≡ emptied (put_back ns slots) n
@@ -279,7 +279,7 @@ pub all_untaken : (k : ℕ) (ns : List ℕ) (slots : List Slot) → AllOut ns (r
 all_untaken k [] slots out = tt
 all_untaken k (n ∷ ns) slots out = (out_unreverted k slots n out.0, all_untaken k ns slots out.1)
 
--- Several rows are gone.
+-- Several rows are released.
 
 pub out_emptied : (ns : List ℕ) (slots : List Slot) (n : ℕ) → AllOut ns slots → AllOut ns (emptied slots n)
 out_emptied [] slots n out = tt

@@ -7,7 +7,7 @@ use Rattle.row_keys.specs.Slots.{Slot, no_slot}
 use Rattle.row_keys.proofs.ListedNumbers.{Listed, listed_more, listed_none, listed_over, listed_same}
 use Rattle.row_keys.proofs.LiveNumbers.{from, from_joined}
 
--- the numbers of the live rows below number n, of which there are at most so many
+-- the numbers of the live rows below number n, of which there are at most this many
 pub record FirstListed (slots : List Slot) (most n : ℕ) (numbers : List ℕ) : Type 0 where
   pub listed : Listed slots n numbers
   pub few : length numbers ≤ most

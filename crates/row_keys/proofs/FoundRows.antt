@@ -172,7 +172,7 @@ unfolding any_among is_among
 none_among [] = refl
 none_among (d ∷ ds) = none_among ds
 
--- Keys of different live rows stand alone.
+-- Keys of different live rows are distinct.
 
 found_named : (cells : List Datum) (xs : List Numbered) (ns : List ℕ) → FindsAll cells xs ns
     → (ks : List Key) × (map datum_of_key ks ≡ cells)
@@ -243,7 +243,7 @@ stands_found cells xs ns all given distinct apart =
 
 -- the causes
 
--- where no rows are live, a key can only be one that stands twice
+-- where no rows are live, a key can only be refused because it is there twice
 pub twice_named : (cells : List Datum) → (has_repeated cells || any_among cells []) ≡ true → has_repeated cells ≡ true
 twice_named cells h = elim (either (has_repeated cells) (any_among cells []) h) [
   | inl e ↦ e

@@ -1,4 +1,4 @@
--- What is gathered of chunks, to be written anew.
+-- What is gathered from chunks, to be rewritten.
 use Rattle.std.proofs.Common.{◌≡◌, ℕ, zero, suc, ◌+◌, ◌-◌, ◌^◌, ◌<◌, ◌≤◌, Bool, true, false, All, List, [], ◌∷◌, ◌++◌, drop, get_or, length, take, refl, ap, sym, subst, ◌∙◌, append_assoc, append-nil, arith}
 use Rattle.std.specs.Prelude.{if◌then◌else◌}
 use Rattle.std.proofs.lemmas.List.{drop_all, drop_more}
@@ -272,7 +272,7 @@ gathered_end part i ranges numbers is end =
       sym (append-nil numbers) ∙ ap (λ cs. numbers ++ all_numbers cs) (sym none) ∙ is.numbers_are,
     )
 
--- Numbers that follow one another
+-- Consecutive numbers
 
 pub turn_end : (ns : List ℕ) (first : ℕ) → ((k : ℕ) → k < length ns → get_or ns k 0 ≡ first + k)
     → ns ≡ in_turn first (length ns)

@@ -1,4 +1,4 @@
--- The index of rows by key, where place 0 is that of the null key and a row is gone.
+-- The index of rows by key, where position 0 is that of the null key and a row is released.
 use Rattle.std.proofs.Common.{◌≡◌, ◌⊎◌, inl, inr, ℕ, zero, suc, ◌<◌, ◌≤◌, false, List, [], ◌∷◌, ◌++◌, Some, length, get_or, refl, ap, sym, subst, ◌∙◌, arith, true≢false}
 use Rattle.std.specs.Prelude.{if◌then◌else◌, replicate, slice_get, slice_set}
 use Rattle.std.proofs.lemmas.Option.{get_or_from_slice_get, none-some, slice_get_within}
@@ -13,7 +13,7 @@ use Rattle.row_keys.proofs.Places.{some_same}
 use Rattle.row_keys.proofs.Indexes.{seen_more}
 use Rattle.row_keys.proofs.StoreStates.{count_gone}
 
--- Once the null key has its place, nothing else has changed.
+-- Once the null key has its position, nothing else has changed.
 pub record Started (keys new : List Key) (hs hs_new : List ℕ) (es : List Entry) (live : ℕ) : Type 0 where
   pub index : IsIndex new hs_new es live
   pub same : seen_all new es ≡ seen_all keys es
@@ -55,9 +55,9 @@ started keys new hs hs_new es live is starts = elim starts [
       }))
 ]
 
--- A row is gone that isn't live.
+-- A row is released that isn't live.
 
--- an entry after one is gone
+-- an entry after one is released
 was_or : (es : List Entry) (n m : ℕ) (e : Entry) → slice_get (slice_set es n gone_entry) m ≡ Some e
     → (e ≡ gone_entry) ⊎ (slice_get es m ≡ Some e)
 was_or [] n m e at = absurd (none-some e at)
@@ -69,7 +69,7 @@ was_or (x ∷ es) (suc n) (suc m) e at = was_or es n m e at
 null_known : (keys : List Key) → slice_get keys 0 ≡ Some key.Null → seen keys gone_entry ≡ no_row
 null_known keys first = ap (λ k. numbered k false) (get_or_from_slice_get keys 0 key.Null key.Null first)
 
--- what stands for a row that is gone is seen as one, also where there are no keys yet
+-- the entry of a released row is seen as one, also where there are no keys yet
 pub unkeyed : (keys : List Key) → (0 < length keys → slice_get keys 0 ≡ Some key.Null) → seen keys gone_entry ≡ no_row
 unkeyed [] first = refl
 unkeyed (k ∷ ks) first = null_known (k ∷ ks) (first (omega arith))
@@ -148,7 +148,7 @@ place_within keys new hs es live p k is ins = elim ins [
   | inr got ↦ let last = got.0 in omega (arith, last, is.as_many)
 ]
 
--- Numbers are passed over: the rows that had them are gone.
+-- Numbers are skipped: the rows that had them are released.
 
 gone_or : (es : List Entry) (m n : ℕ) (e : Entry) → slice_get (es ++ replicate m gone_entry) n ≡ Some e
     → (e ≡ gone_entry) ⊎ (slice_get es n ≡ Some e)

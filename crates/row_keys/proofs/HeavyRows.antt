@@ -1,4 +1,4 @@
--- Whether one of some rows is heavy, by what is found of them; and the same by layouts that are alike.
+-- Whether one of some rows is heavy, by what is known of them; and the same by layouts that are alike.
 use Rattle.std.proofs.Common.{◌≡◌, inl, inr, ℕ, zero, suc, true, false, ◌||◌, List, [], ◌∷◌, ◌+◌, ◌<◌, ◌≤◌, refl, ap, sym, subst, ◌∙◌, arith}
 use Rattle.std.specs.Prelude.{nat_lt}
 use Rattle.std.proofs.lemmas.Bool.{le-ltb}

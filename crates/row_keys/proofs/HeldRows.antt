@@ -41,7 +41,7 @@ use Rattle.row_keys.specs.Slots.{live}
 use Rattle.row_keys.specs.Stored.{AreGiven, AreKeyed, HoldsRow, IsRight, joined}
 use Rattle.row_keys.proofs.StoreStates.{held_alike, keyed_row}
 
--- those of the columns from one on: what is left to say
+-- those of the columns from one on: what remains to be shown
 abbrev pub Rest : List CheckedColumn → ℕ → Type 0
 Rest columns i = All HoldsCells (drop i columns) → All HoldsCells columns
 

@@ -239,7 +239,7 @@ taken_front n xs ys long =
 -- a put that is hidden
 
 module _ (t : Table) (n : ℕ) (ns : List ℕ) (slots : List Slot) where
-  -- Once the last rows are retracted, the others can be put back.
+  -- Once the last rows are retracted, the others can be restored.
   pub hide_can : CanUndoPut t n ns slots → CanPutBack t ns (retracted (last_numbers n slots) slots)
   hide_can can =
       let P : List Slot → Type 0 = λ ss. CanPutBack t ns ss in

@@ -1,4 +1,4 @@
--- What holds of the index where a row comes, goes, is retracted, or is live again.
+-- What holds of the index where a row is added, removed, retracted, or made live again.
 use Rattle.std.proofs.Common.{
   ◌≡◌,
   inl,
@@ -60,7 +60,7 @@ use Rattle.row_keys.proofs.Indexes.{
 abbrev pub new_entry : ℕ → Bool → Entry
 new_entry p fresh = record { key = p; is_live = true; is_new = fresh }
 
--- A row came whose key is at place p, and which holds it.
+-- A row was added whose key is at position p, and which holds it.
 record Came (keys new : List Key) (hs hs_new : List ℕ) (es : List Entry) (p : ℕ) (k : Key) : Type 0 where
   more : length keys ≤ length new
   many : length hs_new ≡ length new
@@ -195,7 +195,7 @@ count_with (y ∷ xs) x = by y.live (if x.live then 1 else 0) (count_with xs x)
     by true n h = omega (arith, h)
     by false n h = h
 
--- The last row is gone, and of the keys only those that are left are kept.
+-- The last row is removed, and of the keys only the remaining ones stay.
 pub index_popped :
     (keys : List Key) (hs : List ℕ) (es : List Entry) (e : Entry) (live kept : ℕ) → IsIndex keys hs (es ++ e ∷ []) live
     → kept ≤ length keys
@@ -227,7 +227,7 @@ index_popped keys hs es e live kept is within below = record {
   after_null = λ n f at new_one. is.after_null n f (at_more es (e ∷ []) n f at) new_one;
 }
 
--- the place up to which keys are kept
+-- the position up to which keys stay
 pub kept_new :
     (keys : List Key) (hs : List ℕ) (es : List Entry) (e : Entry) (live : ℕ) → IsIndex keys hs (es ++ e ∷ []) live
     → e.is_new ≡ true
@@ -467,7 +467,7 @@ live_covers keys hs es e live is =
     ap live_count (map-append (seen keys) es (e ∷ [])) ∙ count_with (seen_all keys es) (seen keys e) in
     omega (arith, all, is.counted)
 
--- the keys that are left
+-- the remaining keys
 pub kept_below :
     (keys : List Key) (hs : List ℕ) (es : List Entry) (e : Entry) (live kept : ℕ) → IsIndex keys hs (es ++ e ∷ []) live
     → kept ≡ (if e.is_new then e.key else length hs) → (n : ℕ) (f : Entry) → slice_get es n ≡ Some f → f.key < kept
@@ -486,7 +486,7 @@ kept_within keys hs es e live kept is which = by e.is_new which
     by true h = let c = is.keyed (length es) e (at_end es e) in omega (arith, c, h)
     by false h = omega (arith, h, is.as_many)
 
--- where the key of a row that comes is held by no live row, no live row has it
+-- where no live row holds the key of a row that is added, no live row has it
 pub unused_before :
     (keys new : List Key) (hs : List ℕ) (es : List Entry) (live p : ℕ) (k : Key) → IsIndex keys hs es live
     → AreApart keys

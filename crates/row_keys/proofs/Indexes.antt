@@ -1,4 +1,4 @@
--- The index of rows by key, as rows come, go, and are retracted.
+-- The index of rows by key, as rows are added, removed, and retracted.
 use Rattle.std.proofs.Common.{
   ◌≡◌,
   ℕ,
@@ -39,7 +39,7 @@ use Rattle.row_keys.specs.Index.{HoldsPlace, IsFree, IsIndex, flagged, seen, see
 use Rattle.row_keys.specs.Numbers.{AreDistinct, IsAt, IsUnused, Numbered, live_count, numbered, turned}
 use Rattle.row_keys.proofs.Places.{some_same}
 
--- a row's place is its entry's
+-- the position of a row's key is that of its entry
 pub seen_at : (keys : List Key) (es : List Entry) (n : ℕ) (e : Entry) → slice_get es n ≡ Some e
     → slice_get (seen_all keys es) n ≡ Some (seen keys e)
 seen_at keys [] n e h = absurd (none-some e h)
@@ -53,7 +53,7 @@ entry_at keys [] n x h = absurd (none-some x h)
 entry_at keys (y ∷ es) zero x h = (y, refl, sym (some_same (seen keys y) x h))
 entry_at keys (y ∷ es) (suc n) x h = entry_at keys es n x h
 
--- a live row with a key holds its place
+-- a live row with a key is the holder at its position
 held_by :
     (keys : List Key) (hs : List ℕ) (es : List Entry) (live p n : ℕ) (k : Key) → IsIndex keys hs es live → AreApart keys
     → slice_get keys p ≡ Some k → IsAt (seen_all keys es) n k true → HoldsPlace es p n × (slice_get hs p ≡ Some n)

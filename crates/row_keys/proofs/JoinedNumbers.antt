@@ -147,7 +147,7 @@ keys_live t (r ∷ rs) (x ∷ ns) keyed = by x.live (keys_live t rs ns keyed.1)
     by true h = ap (λ k. k ∷ keys_in t (live (joined rs ns))) keyed.0 ∙ ap (λ ks. datum_of_key x.key ∷ ks) h
     by false h = h
 
--- rows that come, all live
+-- rows that are added, all live
 
 abbrev pub fresh : Key → Numbered
 fresh k = numbered k true

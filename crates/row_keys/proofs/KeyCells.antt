@@ -1,4 +1,4 @@
--- The cells that are keys, and those that are none.
+-- The cells that are keys, and those that aren't.
 use Rattle.std.proofs.Common.{◌≡◌, false, None, refl, sym}
 use Rattle.std.specs.Prelude.{IsSome}
 use Rattle.std.proofs.lemmas.Option.{none-some}

@@ -1,4 +1,4 @@
--- Keys as values: which are the same, which are among others, and which stand twice.
+-- Keys as values: which are the same, which are among others, and which are there twice.
 use Rattle.std.proofs.Common.{
   ◌≡◌,
   inl,
@@ -221,7 +221,7 @@ repeated_pushed (x ∷ xs) d h other =
     ∙ or_none (is_among x xs) (same_key x d || false) a.0 (or_none (same_key x d) false (same_sym x d ∙ b.0) refl))
     (repeated_pushed xs d a.1 b.1)
 
--- a key that was there before is one that stands twice
+-- a key that was there before is one that is there twice
 pub repeated_by : (k : Key) (xs rest : List Datum) (ks : List Key) → map datum_of_key ks ≡ xs
     → is_among (datum_of_key k) xs ≡ true → has_repeated (xs ++ datum_of_key k ∷ rest) ≡ true
 unfolding has_repeated is_among

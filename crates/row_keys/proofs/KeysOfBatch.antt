@@ -241,7 +241,7 @@ keys_dropped cells i old mid p = ap (λ xs. take (length old) xs) p.pushed ∙ t
 
 pub ruleset pushing = (keys_none, keys_more, keys_end, keys_refused, keys_dropped)
 
--- a key is refused that a live row has
+-- a live row's key is refused
 pub used_refuses : (cells : List Datum) (i n : ℕ) (old : List Numbered) (k : Key) (e : EditFault)
     → e ≡ used_key (has_null (drop i cells)) → datum_of_key k ≡ get_or cells i null → IsAt old n k true
     → RefusesKey cells i old e

@@ -1,4 +1,4 @@
--- Lists of what a function has for numbers.
+-- Lists of the values of a function at numbers.
 use Rattle.std.proofs.Common.{◌≡◌, ℕ, zero, suc, ◌+◌, ◌<◌, ◌≤◌, ◌∷◌, ◌++◌, get_or, length, map, take, refl, ap, ◌∙◌, arith}
 use Rattle.std.specs.Prelude.{replicate, slice_set}
 use Rattle.row_keys.specs.Listed.{listed}

@@ -122,7 +122,7 @@ listed_same slots n numbers l below dead = record {
   there = l.there;
 }
 
--- numbers of rows that aren't live are passed over
+-- numbers of rows that aren't live are skipped
 pub listed_over :
     (slots : List Slot) (n k m : ℕ) (numbers : List ℕ) → n + k ≡ m → Listed slots n numbers → m ≤ length slots
     → ((i : ℕ) → n ≤ i → i < m → (get_or slots i no_slot).live ≡ false) → Listed slots m numbers

@@ -1,4 +1,4 @@
--- The numbers of the live rows, where a row more has come.
+-- The numbers of the live rows, where one more row was added.
 use Rattle.std.proofs.Common.{
   ◌≡◌,
   ℕ,

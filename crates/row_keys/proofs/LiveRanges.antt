@@ -49,7 +49,7 @@ module _ (t : Table) (rows : List (List Datum)) (xs : List Numbered) (stored : I
       ap₂ (λ r rs. r ∷ rs) (live_at_once n (All-head (IsLiveIn rows xs) n ns lives))
       (live_mapped ns (All-tail (IsLiveIn rows xs) n ns lives))
 
-  -- rows that may be there
+  -- rows that may exist or not
 
   abbrev IsLiveIf : Option ℕ → Type 0
   IsLiveIf o = IfSome o (IsLiveIn rows xs)

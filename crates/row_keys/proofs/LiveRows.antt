@@ -29,7 +29,7 @@ live_row_is P (s ∷ ss) (suc n) all is = live_row_is P ss n (by s.live all) is
     by true rows = All-tail P s.row (live ss) rows
     by false rows = rows
 
--- a row has a cell a column
+-- a row has one cell for each column
 pub held_long : (fs : List (Rose NamedType)) (row : List Datum) → HoldsEach (trees_of (kids_of fs)) (items_of row)
     → length row ≡ length fs
 held_long [] [] held = refl

@@ -1,4 +1,4 @@
--- Rows of chunks by their places.
+-- Rows of chunks by their locations.
 use Rattle.std.proofs.Common.{◌≡◌, ℕ, zero, suc, ◌+◌, ◌<◌, ◌≤◌, All, Bool, true, false, Some, List, [], ◌∷◌, ◌++◌, get_or, length, take, refl, ap, ap₂, sym, subst, ◌∙◌, arith}
 use Rattle.std.specs.Prelude.{IfSome, None, Option, if◌then◌else◌, map, slice_get}
 use Rattle.std.proofs.lemmas.List.Elements.{All-cons, All-head, All-nil, All-tail}
@@ -33,7 +33,7 @@ batch_at (d ∷ cs) (b ∷ bs) (suc p) c are there =
     let at = batch_at cs bs p c are.1 there in
     record { batch = at.batch; there = at.there; is = at.is }
 
--- a row that is kept
+-- a row that is retained
 kept_row : (cs : List Chunk) (n p i : ℕ) (at : LiesAt cs n p i) → 0 < length (row_in cs n)
     → row_in cs n ≡ row_at (cells_in at.lies.chunk.columns) i
 kept_row cs n p i at kept = by (get_or c.gone i true) (at.lies.row ∙ ap (chunk_row c) at.place) where
@@ -141,7 +141,7 @@ pub batches_all : (cs : List Chunk) (i : ℕ) (made : List (Bor Batch)) → leng
     → AreBatches (take i cs) made → AreBatches cs made
 batches_all cs i made h are = subst (λ xs. AreBatches xs made) (take_all i cs h) are
 
--- rows that may be there
+-- rows that may exist or not
 
 batches_many : (cs : List Chunk) (bs : List (Bor Batch)) → AreBatches cs bs → length bs ≡ length cs
 batches_many [] [] are = refl

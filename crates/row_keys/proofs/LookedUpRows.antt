@@ -165,7 +165,7 @@ known_by t rows xs v d k (Some n) keyed distinct given is at =
       there_live (joined rows xs) n here.0,
     )
 
--- A stored key is no null, so null finds no row.
+-- A stored key isn't null, so null finds no row.
 
 pub key_known :
     (t : Table) (rows : List (List Datum)) (xs : List Numbered) (v : ℕ) (k : Key) (found : Option ℕ)

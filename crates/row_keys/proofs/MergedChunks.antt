@@ -1,4 +1,4 @@
--- Chunks that are written anew, and the rows that are found in them.
+-- Chunks that are rewritten, and the rows that are found in them.
 use Rattle.std.proofs.Common.{◌≡◌, ◌⊎◌, inl, inr, ℕ, zero, suc, ◌+◌, ◌-◌, ◌^◌, ◌<◌, ◌≤◌, Bool, true, false, All, List, [], ◌∷◌, ◌++◌, drop, get_or, length, length-append, take, refl, ap, sym, subst, ◌∙◌, arith}
 use Rattle.std.specs.Prelude.{IfOk, IfSome, Option, None, Some, Result, Ok, Err, if◌then◌else◌, nat_eq, nat_lt, replicate, slice_set}
 use Rattle.std.proofs.lemmas.List.Elements.{All-append, All-cons, All-head, All-nil, All-tail}
@@ -293,7 +293,7 @@ merged from len d ds first span ks rs c are start end first_is span_is numbers r
           ∙ ap (λ xs. look (all_numbers (d ∷ ds)) xs n) (left.1 ∙ rows) ∙ sym (rows_looked from len (d ∷ ds) n are);
     }
 
--- what is above the last
+-- the numbers above the last
 pub end_at : (from len k : ℕ) (cs : List Chunk) (c : Chunk) → AreChunks from cs len → k + 1 ≡ length cs
     → c ≡ get_or cs k c → (c.first + c.span ≡ end_of from cs) × (c.first + c.span ≤ len)
 end_at from len k [] c are last is = absurd (omega (arith, last))
@@ -324,7 +324,7 @@ first_below from len (suc k) (x ∷ xs) c d are below first is =
         let first_low = all.0 in
         omega (arith, first_low, more_low)
 
--- Some chunks give way to one.
+-- Some chunks are replaced by one.
 
 pub split_chunks : (from len : ℕ) (cs ds : List Chunk) → AreChunks from (cs ++ ds) len → AreChunks (end_of from cs) ds len
 split_chunks from len [] ds are = are
@@ -385,7 +385,7 @@ halves (suc k) [] = refl
 halves zero (x ∷ xs) = refl
 halves (suc k) (x ∷ xs) = ap (λ ys. x ∷ ys) (halves k xs)
 
--- the part of them from place p on, up to place q
+-- the part of them from index p on, up to q
 pub cut_out : (cs : List Chunk) (p q : ℕ) → p ≤ q → cs ≡ take p cs ++ (take (q - p) (drop p cs) ++ drop q cs)
 cut_out cs p q le =
     let e : p + (q - p) ≡ q = omega (arith, le) in
@@ -394,7 +394,7 @@ cut_out cs p q le =
     (halves (q - p) (drop p cs)
     ∙ ap (λ xs. take (q - p) (drop p cs) ++ xs) (drop-drop (q - p) p cs ∙ ap (λ k. drop k cs) e))
 
--- Rows that are left are those of the table.
+-- The remaining rows are those of the table.
 
 abbrev pub HasWidth : ℕ → Row → Type 0
 HasWidth w row = length row ≡ w
@@ -502,7 +502,7 @@ span_end part k head last span is some end first_is last_is span_is first at fro
     other [] more_than = absurd (omega (arith, more_than))
     other (c ∷ cs) more_than = refl
 
--- the numbers are those of a machine
+-- the numbers fit into a machine word
 pub span_fits :
     (part : List Chunk) (k : ℕ) (head last : Chunk) → IsPart part → k + 1 ≡ length part → head ≡ get_or part 0 head
     → last ≡ get_or part k last → (last.first + last.span < 2 ^ 64) × (head.first ≤ last.first + last.span)
@@ -521,7 +521,7 @@ merged_part from len [] head first span ks rs c are some at start = absurd (omeg
 merged_part from len (d ∷ ds) head first span ks rs c are some at start =
     merged from len d ds first span ks rs c are (start ∙ ap (λ (x : Chunk). x.first) at)
 
--- The chunks from place p up to place q give way to one.
+-- The chunks from index p up to q are replaced by one.
 
 pub drop_none : {X : Type 0} (xs : List X) → drop 0 xs ≡ xs
 drop_none [] = refl

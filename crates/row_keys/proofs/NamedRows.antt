@@ -1,4 +1,4 @@
--- The rows that a change names are there.
+-- The rows that a change names exist.
 use Rattle.std.proofs.Common.{◌≡◌, ◌<◌, All, List, ℕ, length, refl, subst, sym}
 use Rattle.std.proofs.lemmas.List.Elements.{All-append}
 use Rattle.row_keys.specs.HiddenChanges.{NamesRows, named_numbers}

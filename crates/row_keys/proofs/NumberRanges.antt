@@ -1,4 +1,4 @@
--- Numbers one after the other.
+-- Consecutive numbers.
 use Rattle.std.proofs.Common.{
   ◌≡◌,
   ℕ,
@@ -37,7 +37,7 @@ range_more a n old new so_far more =
     more ∙ ap (λ xs. xs ++ (a + n) ∷ []) so_far ∙ sym (range_next a n)
     ∙ ap (range_with_len a) (sym (add-one n))
 
--- The last rows are there.
+-- The last rows exist.
 there : (count : ℕ) (slots : List Slot) → count ≤ length slots
     → All (λ n. n < length slots) (last_numbers count slots)
 there count slots few =

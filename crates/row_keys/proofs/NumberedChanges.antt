@@ -151,7 +151,7 @@ module _ (old new : ℕ → Option (List Datum)) where
       ∙ ap (λ o. cond (is_named m ns) (new m) o) (lookup-with_at n m (new n) rows up)
       ∙ twice n m (row_at m rows) (is_same n m) (is_named m ns) refl
 
-  -- Where each number is named once, what is there after is what is told by the numbers.
+  -- Where each number is named once, what is there after is given by the numbers.
   pub leads : (ns : List ℕ) (rows after : NumberedRows) → Up rows → Up after → IsDistinct (eq_by_cmp nat_cmp) ns
       → AllByRecursion (λ n. row_at n rows ≡ old n) ns
       → ((m : ℕ) → row_at m after ≡ cond (is_named m ns) (new m) (row_at m rows)) → Leads rows (shifts ns) after

@@ -1,4 +1,4 @@
--- What stands at a place of a list that is longer, shorter, or changed at one place.
+-- The item at an index of a list that is longer, shorter, or changed at one index.
 use Rattle.std.proofs.Common.{
   ◌≡◌,
   inl,

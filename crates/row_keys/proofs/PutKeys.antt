@@ -1,4 +1,4 @@
--- Rows that come one after the other, each in the place of the live row with its key.
+-- Rows that are added one after the other, each replacing the live row with its key.
 use Rattle.std.proofs.Common.{◌≡◌, inl, inr, ℕ, zero, suc, ◌+◌, ◌<◌, ◌≤◌, Bool, true, false, List, [], ◌∷◌, ◌++◌, Some, length, take, drop, get_or, map, refl, ap, sym, subst, ◌∙◌, arith, true≢false}
 use Rattle.std.specs.Prelude.{if◌then◌else◌, slice_get}
 use Rattle.std.proofs.lemmas.Option.{none-some}
@@ -56,7 +56,7 @@ turned_front [] ys n below = absurd (omega (arith, below))
 turned_front (x ∷ xs) ys zero below = refl
 turned_front (x ∷ xs) ys (suc n) below = ap (λ zs. x ∷ zs) (turned_front xs ys n (omega (arith, below)))
 
--- a row behind the front has one of the keys that came
+-- a row after the front has one of the keys that were added
 fresh_at : (ks : List Key) (n : ℕ) (k : Key) → IsAt (map fresh ks) n k true
     → is_among (datum_of_key k) (map datum_of_key ks) ≡ true
 unfolding is_among
@@ -266,7 +266,7 @@ puts_refused cells i first old mid ns (fault.Unfit unfit.DuplicateKey) below sta
 puts_refused cells i first old mid ns fault.Memory below start p h = tt
 puts_refused cells i first old mid ns (fault.Unfit u) below start p h = absurd h
 
--- what is there without the rows that came
+-- what is there without the rows that were added
 pub puts_taken : (cells : List Datum) (old mid : List Numbered) (ns : List ℕ) → PutsKeys cells old ns mid
     → take (length old) mid ≡ turned_off ns old
 puts_taken cells old mid ns p =

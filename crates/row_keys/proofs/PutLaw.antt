@@ -1,4 +1,4 @@
--- The laws of puts that are hidden and shown, and how many rows go or come.
+-- The laws of puts that are hidden and shown, and how many rows are deleted or inserted.
 use Rattle.std.proofs.Common.{
   ◌≡◌,
   ℕ,
@@ -73,7 +73,7 @@ pub few_put_back : FewPutBack
 unfolding CanPutBack
 few_put_back t ns slots can = few_retracted ns (put_back ns slots) (can_retract_again t ns slots can.0)
 
--- rows that come after others went
+-- rows that are inserted after others were deleted
 
 come_same : (ms ns : List ℕ) (slots : List Slot) → come (retracted ms slots) ns ≡ come slots ns
 come_same ms [] slots = refl

@@ -1,4 +1,4 @@
--- The rows of a batch that is put, once their keys are numbered, beside the rows that are stored.
+-- The rows of a batch that is put, once their keys are numbered, and the rows that are stored.
 use Rattle.std.proofs.Common.{◌≡◌, ℕ, ◌+◌, ◌-◌, false, All, None, List, ◌++◌, length, map, refl, ap, sym, subst, ◌∙◌, arith}
 use Rattle.std.proofs.lemmas.List.{length-map}
 use Rattle.values.specs.Datum.{Datum}
@@ -44,7 +44,7 @@ use Rattle.row_keys.proofs.ReplacedRows.{put_refusal, replaced_can, replaced_gon
 use Rattle.row_keys.proofs.StoreStates.{off_back, off_can, off_world, stored_off}
 use Rattle.row_keys.proofs.TurnedRows.{joined_off}
 
--- what is known where a batch of n rows is put to stored rows
+-- what is known where a batch of n rows is added to stored rows by a put
 pub record Put (t : Table) (stored : List (List Datum)) (old new : List Numbered) (columns : List CheckedColumn) (n : ℕ)
     (ns : List ℕ) : Type 0 where
   pub right : IsStored t stored old
@@ -75,7 +75,7 @@ module _ (t : Table) (stored : List (List Datum)) (old new : List Numbered) (col
   abbrev slots : List Slot
   slots = joined stored old
 
-  -- the rows that are replaced go
+  -- the rows that are replaced are retracted
   gone : IsStored t stored off
   gone = stored_off t stored old ns is.right is.keys.live
 
@@ -86,7 +86,7 @@ module _ (t : Table) (stored : List (List Datum)) (old new : List Numbered) (col
   put_slots = slots_appended gone is.batch is.keys.pushed
       ∙ ap (λ ss. ss ++ map new_slot rows) (joined_off stored ns old)
 
-  -- how many rows are live before those of the batch come
+  -- how many rows are live before those of the batch are added
   pub put_counted : live_count new ≡ live_count off + n
   put_counted =
       let counted : live_count new ≡ live_count off + length is.keys.pushed.keys =
@@ -97,7 +97,7 @@ module _ (t : Table) (stored : List (List Datum)) (old new : List Numbered) (col
       let many = batch_counted columns n in
       omega (arith, counted, named, keyed, many)
 
-  -- the live rows beside which those of the batch come
+  -- the live rows to which those of the batch are added
   others : (all : ℕ) → all ≡ live_count new → all - n ≡ live_count off
   others all counted = omega (arith, counted, put_counted)
 

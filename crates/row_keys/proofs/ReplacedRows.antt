@@ -1,4 +1,4 @@
--- Rows that take the places of those with their keys.
+-- Rows that replace those with their keys.
 use Rattle.std.proofs.Common.{◌≡◌, ℕ, suc, ◌+◌, ◌<◌, ◌||◌, Bool, true, false, not, cond, List, [], ◌∷◌, ◌++◌, filter, length, take, get_or, refl, ap, sym, subst, ◌∙◌, arith, append-nil, true≢false}
 use Rattle.std.proofs.Math.Seq.{take-suc}
 use Rattle.std.proofs.lemmas.List.Elements.{filter-append}
@@ -88,7 +88,7 @@ or_same : (c x y : Bool) → (c ≡ true → false ≡ true) → x ≡ y → x �
 or_same true x y never same = absurd (true≢false (sym (never refl)))
 or_same false x y never same = same
 
--- a key is among those that are left where all that are the same are left
+-- a key is among the remaining ones where all that are equal to it remain
 among_left :
     (p : Datum → Bool) (d : Datum) (ks : List Datum) → ((k : Datum) → same_key d k ≡ true → p k ≡ true)
     → is_among d (filter p ks) ≡ is_among d ks
@@ -147,7 +147,8 @@ put_refused t c rows (fault.Unfit unfit.DuplicateKey) h =
 put_refused t c rows fault.Memory h = tt
 put_refused t c rows (fault.Unfit u) h = absurd h
 
--- The causes against rows that are put are those against rows that come once those with their keys are gone.
+-- The causes for which rows that are put are refused are those for rows that are added once those with their keys are
+-- removed.
 pub put_refusal :
     (old mid : Store) (rows : List (List Datum)) (ns ms : List ℕ)
     → mid ≡ with_slots old (retracted ms old.slots)

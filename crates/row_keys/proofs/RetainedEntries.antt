@@ -67,7 +67,7 @@ number_from from len (suc p) (j ∷ js) k are there =
     let low = are.0 in
     omega (arith, rest, low)
 
--- what is kept at a place is the entry of its number
+-- the entry at a position is that of its number
 pub entry_there : (from len p : ℕ) (ks : List RetainedEntry) (k : RetainedEntry) → AreInOrder from ks len → slice_get ks p ≡ Some k
     → entry_in ks k.number ≡ k.entry
 entry_there from len p [] k are there = absurd (none-some k there)
@@ -130,7 +130,7 @@ not_there ks len n p are point none = entry_none ks n (λ i k there is.
           none (get_or ks p k) first (omega (arith, least, rise, is))
     ])
 
--- numbers between those that are kept
+-- numbers between the retained ones
 pub gone_between :
     (ks : List RetainedEntry) (len n p m : ℕ) → AreInOrder 0 ks len
     → IsPartitionPoint (λ k. nat_lt k.number n ≡ true) (λ k. nat_lt k.number n ≡ false) ks p
@@ -171,7 +171,7 @@ number_within from len zero (j ∷ js) k are there =
     omega (arith, least, same)
 number_within from len (suc p) (j ∷ js) k are there = number_within (suc j.number) len p js k are.1 there
 
--- An entry is another.
+-- An entry is replaced.
 
 abbrev kept : ℕ → Entry → RetainedEntry
 kept n e = record { number = n; entry = e }
@@ -232,7 +232,7 @@ entries_get ks len n below =
     slice_get-get_or (all_entries ks len) n (entry_in ks n) (omega (arith, below, long))
     ∙ ap Some (entries_at ks len n (entry_in ks n) below)
 
--- One more comes, or goes.
+-- One more is added, or removed.
 
 pub entries_more : (ks js : List RetainedEntry) (len : ℕ) (e : Entry) → ((i : ℕ) → i < len → entry_in js i ≡ entry_in ks i)
     → entry_in js len ≡ e → all_entries js (len + 1) ≡ all_entries ks len ++ e ∷ []
@@ -271,14 +271,14 @@ pub order_upto : (from len end : ℕ) (ks : List RetainedEntry) → AreInOrder f
 order_upto from len end [] are le = omega (arith, are, le)
 order_upto from len end (k ∷ ks) are le = (are.0, order_upto (suc k.number) len end ks are.1 le)
 
--- a row comes with an entry
+-- a row is added with an entry
 pub entries_pushed : (ks : List RetainedEntry) (len : ℕ) (e : Entry) → AreInOrder 0 ks len
     → all_entries (ks ++ record { number = len; entry = e } ∷ []) (len + 1) ≡ all_entries ks len ++ e ∷ []
 entries_pushed ks len e are =
     entries_more ks (ks ++ kept len e ∷ []) len e (λ i below. last_other ks (kept len e) i (λ q. omega (arith, q, below)))
     (last_here 0 len ks (kept len e) are (omega arith))
 
--- a number comes of which nothing is kept
+-- a number is added without an entry
 pub entries_skipped : (ks : List RetainedEntry) (len : ℕ) → AreInOrder 0 ks len
     → all_entries ks (len + 1) ≡ all_entries ks len ++ gone_entry ∷ []
 entries_skipped ks len are =
@@ -294,7 +294,7 @@ entries_passed ks len end are le =
     (listed_all (entry_in ks) gone_entry (0 + len) (end - len)
     (λ i from. none_past 0 len i ks are (omega (arith, from))))
 
--- What is kept of rows that are gone is forgotten.
+-- The entries of released rows are removed.
 
 gone_is : (k : RetainedEntry) → is_kept k ≡ false → k.entry ≡ gone_entry
 gone_is k is =
@@ -345,9 +345,9 @@ entries_swept ks len are = (
   listed_same (entry_in (filter is_kept ks)) (entry_in ks) 0 len (λ i low high. (kept_swept 0 len i ks are).1),
 )
 
--- The last entry goes.
+-- The last entry is removed.
 
--- it is kept
+-- it is retained
 pub last_popped :
     (ks front : List RetainedEntry) (last : ℕ) (k : RetainedEntry) → AreInOrder 0 ks (last + 1) → ks ≡ front ++ k ∷ [] → k.number ≡ last
     → AreInOrder 0 front last × (all_entries ks (last + 1) ≡ all_entries front last ++ k.entry ∷ [])
@@ -501,7 +501,7 @@ pub none_forgotten : (ks : List RetainedEntry) (len n : ℕ) → entry_in ks n �
     → all_entries ks len ≡ slice_set (all_entries ks len) n gone_entry
 none_forgotten ks len n gone = set_gone (all_entries ks len) n (gone_at ks len n gone)
 
--- What holds of the index where what is kept changes
+-- What holds of the index where the entries change
 
 pub index_swept :
     (keys : List Key) (hs : List ℕ) (ks : List RetainedEntry) (len live : ℕ) → IsRetainedIndex keys hs ks len live

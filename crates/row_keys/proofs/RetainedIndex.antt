@@ -1,4 +1,4 @@
--- What holds of the index of rows by number, where what is kept of a row is its entry.
+-- What holds of the index of rows by number, where entries are stored of rows.
 use Rattle.std.proofs.Common.{◌≡◌, ℕ, ◌<◌, ◌+◌, ◌++◌, Bool, true, false, List, [], ◌∷◌, Option, None, Some, get_or, length, ap, sym, subst, ◌∙◌, arith, true≢false}
 use Rattle.std.specs.Prelude.{◌-◌, ◌^◌, ◌≤◌, slice_get, slice_set}
 use Rattle.std.proofs.lemmas.List.{length-map}
@@ -52,7 +52,7 @@ kept_seen keys ks js len n e xs view below is same =
     get_or_from_slice_get (seen_all keys (all_entries ks len)) n (seen keys (entry_in ks n)) no_row there in
     ap (seen keys) (is ∙ ap (λ zs. entry_in zs n) same) ∙ sym got ∙ ap (λ ys. get_or ys n no_row) view
 
--- its key has a place
+-- its key has a position
 pub kept_keyed :
     (keys : List Key) (hs : List ℕ) (ks js : List RetainedEntry) (len live n : ℕ) (e : Entry) (xs : List Numbered)
     → IsRetainedIndex keys hs ks len live → seen_all keys (all_entries ks len) ≡ xs → n < length xs
@@ -66,7 +66,7 @@ kept_keyed keys hs ks js len live n e xs is view below at same =
 pub at_below : (xs : List Numbered) (n : ℕ) (k : Key) (b : Bool) → IsAt xs n k b → n < length xs
 at_below xs n k b at = slice_get_within xs n (numbered k b) at
 
--- a row that was retracted and isn't gone is kept
+-- a row that was retracted and isn't released has an entry
 pub gone_not :
     (keys : List Key) (hs : List ℕ) (ks : List RetainedEntry) (len live n : ℕ) (k : Key) (xs : List Numbered)
     → IsRetainedIndex keys hs ks len live → seen_all keys (all_entries ks len) ≡ xs → IsAt xs n k false
@@ -86,7 +86,7 @@ gone_not keys hs ks len live n k xs is view at not gone =
     let off : true ≡ false = sym (ap (λ q. is_null (datum_of_key q)) known) ∙ not in
     true≢false off
 
--- what is kept at a place of a number
+-- the entry at the position of a number
 pub entry_got :
     (ks js : List RetainedEntry) (len n p : ℕ) (k : RetainedEntry) → AreInOrder 0 ks len → js ≡ ks → IsRetainedAt js n p
     → k ≡ get_or ks p k → k.entry ≡ entry_in ks n
@@ -99,7 +99,7 @@ entry_got ks js len n p k are same at got =
 pub kept_in : (ks js : List RetainedEntry) (n p : ℕ) → js ≡ ks → IsRetainedAt js n p → IsRetainedAt ks n p
 kept_in ks js n p same at = subst (λ zs. IsRetainedAt zs n p) same at
 
--- A row is gone.
+-- A row is released.
 
 pub index_forgotten :
     (keys : List Key) (hs : List ℕ) (ks new : List RetainedEntry) (len live n : ℕ) (xs : List Numbered)
@@ -132,7 +132,7 @@ seen_forgotten keys hs ks new len live n xs is view below gone =
     (null_there keys hs (all_entries ks len) live n is.index (omega (arith, within, long))).1
     ∙ ap (λ ys. slice_set ys n no_row) view
 
--- A row turns.
+-- A row is retracted, or made live.
 
 pub seen_turned :
     (keys : List Key) (ks new : List RetainedEntry) (len n : ℕ) (b : Bool) (xs : List Numbered)
@@ -238,7 +238,7 @@ live_fits keys hs ks len live is =
     let most = is.bound in
     omega (arith, few, long, most)
 
--- What is got from the table of keys
+-- What is read from the table of keys
 
 copied_some : (o : Option (Bor Key)) (k : Key) → option_copied o ≡ Some k → IsSome o
 copied_some None k h = absurd (none-some k h)

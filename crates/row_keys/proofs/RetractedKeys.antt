@@ -61,7 +61,7 @@ pub are_keys :
     → AreKeys t c
 are_keys t columns c rows batch is = (one_column (key_layout t) columns c batch.alike is).1
 
--- the edit that it is
+-- the edit of the batch
 pub keys_edit :
     (t : Table) (columns : List CheckedColumn) (c : CheckedColumn) (rows : ℕ)
     → IsBatchOf (key_column t) columns rows → c ≡ get_or columns 0 c

@@ -1,4 +1,4 @@
--- What is left where rows are retracted, and how they come back.
+-- The remaining rows where rows are retracted, and how they are restored.
 use Rattle.std.proofs.Common.{
   ◌≡◌,
   ℕ,
@@ -58,7 +58,7 @@ pub record IsProper (t : Table) (slots : List Slot) : Type 0 where
 abbrev others : Table → Datum → List (List Datum) → List (List Datum)
 others t k rows = without t (k ∷ []) rows
 
--- a row is kept where its key isn't the one
+-- a row remains where its key isn't the one
 kept_one : (t : Table) (k : Datum) (r : List Datum) (rs : List (List Datum)) → same_key k (key_in t r) ≡ false
     → others t k (r ∷ rs) ≡ r ∷ others t k rs
 unfolding without is_among
@@ -96,7 +96,7 @@ among_live t (s ∷ ss) (suc n) k there h = by s.live (among_live t ss n k there
     by true rest e = rest (neither (same_key k (key_in t s.row)) (is_among k (keys_in t (live ss))) e).1
     by false rest e = rest e
 
--- One live row is retracted: the others with another key are left.
+-- One live row is retracted: the others with another key remain.
 one_less :
     (t : Table) (slots : List Slot) (n : ℕ) → IsThere slots n true → has_repeated (keys_in t (live slots)) ≡ false
     → same_key (key_in t (row_of slots n)) (key_in t (row_of slots n)) ≡ true
@@ -161,7 +161,7 @@ among_less t d k (r ∷ rs) h =
     by true e h = h
     by false e h = or_none (same_key d (key_in t r)) (is_among d (keys_in t (others t k rs))) e h
 
--- the key that is taken out isn't among those left
+-- the key that is removed isn't among the remaining ones
 taken_out : (t : Table) (k : Datum) (rs : List (List Datum)) → is_among k (keys_in t (others t k rs)) ≡ false
 unfolding without is_among
 taken_out t k [] = refl

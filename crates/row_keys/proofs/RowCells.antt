@@ -62,7 +62,7 @@ row-end columns i k made whole all is =
     let P : List CheckedColumn → Type 0 = λ cs. made ++ row_at (cells_in cs) k ≡ whole in
     sym (append-nil made) ∙ subst P (drop_all i columns all) is
 
--- Cells that the columns left hold make these a row that all columns hold.
+-- Cells that the remaining columns hold make these a row that all columns hold.
 unfoldable pub Leads : List Datum → List CheckedColumn → List CheckedColumn → Type 0
 Leads made left columns = (rest : List Datum) → HoldsEach (layouts_in left) (items_of rest)
     → HoldsEach (layouts_in columns) (items_of (made ++ rest))

@@ -1,4 +1,4 @@
--- Places of numbers that rise.
+-- Positions of numbers that rise.
 use Rattle.std.proofs.Common.{◌≡◌, ◌⊎◌, inl, inr, ℕ, zero, suc, ◌+◌, ◌-◌, ◌<◌, ◌≤◌, false, List, [], ◌∷◌, get_or, length, take, refl, ap, sym, subst, ◌∙◌, arith, min}
 use Rattle.std.specs.Prelude.{if◌then◌else◌, nat_lt}
 use Rattle.std.specs.List.Sorted.{IsPartitionedBy}
@@ -7,7 +7,7 @@ use Rattle.std.proofs.lemmas.Bool.Decides.{eqb_tells, leb_tells}
 use Rattle.row_keys.specs.Chunks.{AreBelow, AreRising, IsNoneOf, IsPlaceOf, in_turn, numbers_by, place_in}
 use Rattle.row_keys.proofs.ListedItems.{listed_long, listed_take, listed_whole}
 
--- where a number stands
+-- where a number is
 
 pub here_first : (m n : ℕ) (ms : List ℕ) → m ≡ n → place_in (m ∷ ms) n ≡ 0
 here_first m n ms is = ap (λ b. if b then 0 else suc (place_in ms n)) (elim (eqb_tells m n) [
@@ -31,7 +31,7 @@ place_within (m ∷ ms) n = elim (first_or_not m n) [
       omega (arith, e, rest)
 ]
 
--- what stands there is the number
+-- the number there
 pub place_is : (ns : List ℕ) (n d : ℕ) → place_in ns n < length ns → get_or ns (place_in ns n) d ≡ n
 place_is [] n d below = absurd (omega (arith, below))
 place_is (m ∷ ms) n d below = elim (first_or_not m n) [
@@ -41,7 +41,7 @@ place_is (m ∷ ms) n d below = elim (first_or_not m n) [
       ap (λ i. get_or (m ∷ ms) i d) e ∙ place_is ms n d (omega (arith, below, e))
 ]
 
--- so that other numbers stand at other places
+-- so that other numbers are at other positions
 pub places_differ : (ns : List ℕ) (n m : ℕ) → place_in ns n < length ns → (m ≡ n → ⊥) → place_in ns m ≡ place_in ns n → ⊥
 places_differ ns n m below other same =
     other (sym (place_is ns m 0 (omega (arith, same, below))) ∙ ap (λ i. get_or ns i 0) same ∙ place_is ns n 0 below)
@@ -99,7 +99,7 @@ none_over from end (m ∷ ms) n are past =
     let rest = rising_within (suc m) end ms are.1 in
     not_first m n ms (λ e. omega (arith, e, rest, past)) ∙ ap suc (none_over (suc m) end ms n are.1 past)
 
--- the place of the number that stands at a place
+-- the position of the number at a position
 pub place_of_at : (from end : ℕ) (ns : List ℕ) (i d : ℕ) → AreRising from ns end → i < length ns
     → place_in ns (get_or ns i d) ≡ i
 place_of_at from end [] i d are below = absurd (omega (arith, below))
@@ -150,7 +150,7 @@ same_at [] k d e below = absurd (omega (arith, below))
 same_at (n ∷ ns) zero d e below = refl
 same_at (n ∷ ns) (suc k) d e below = same_at ns k d e (omega (arith, below))
 
--- Numbers that follow one another
+-- Consecutive numbers
 
 pub in_turn_place : (first count n : ℕ) → first ≤ n → n < first + count → place_in (in_turn first count) n ≡ n - first
 in_turn_place first zero n low high = absurd (omega (arith, low, high))

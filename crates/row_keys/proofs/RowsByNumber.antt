@@ -1,4 +1,4 @@
--- The live row of each number, as slots are marked, come and go.
+-- The live row of each number, as slots are marked, inserted and deleted.
 use Rattle.std.proofs.Common.{
   ◌≡◌,
   refl,
@@ -119,7 +119,7 @@ all_of : (P : ℕ → Type 0) (ns : List ℕ) → ((n : ℕ) → P n) → AllByR
 all_of P [] h = tt
 all_of P (n ∷ ns) h = (h n, all_of P ns h)
 
--- the live rows under their numbers
+-- the live rows by their numbers
 
 above : (a n : ℕ) (slots : List Slot) → a < n
     → AllByRecursion (λ m. nat_cmp a m ≡ Less) (keys_of (numbered_from n slots))
@@ -282,7 +282,7 @@ retracted_lived [] slots can = tt
 retracted_lived (n ∷ ns) slots can =
     (there_is true slots n can.0, lived_before slots n ns (retracted_lived ns (marked false slots n) can.1))
 
--- rows that are put back
+-- rows that are restored
 
 some_twice : (p q : Bool) (r o : Option (List Datum)) → cond p r (cond q r o) ≡ cond (cond p true q) r o
 some_twice true q r o = refl
@@ -332,7 +332,7 @@ put_back_free t [] slots are = tt
 put_back_free t (n ∷ ns) slots are =
     (at_numbered slots n ∙ (free_once t n ns slots are.0 are.1).1, put_back_free t ns slots are.0)
 
--- numbers in a row
+-- consecutive numbers
 
 range_before : (m a n : ℕ) → m < a → is_named m (range_with_len a n) ≡ false
 range_before m a zero h = refl
@@ -423,7 +423,7 @@ at_appended slots rows m =
       ]
     ]
 
--- rows that are taken back
+-- rows that are reverted
 
 in_front : (slots : List Slot) (k m : ℕ) → m < k → get_or (take k slots) m no_slot ≡ get_or slots m no_slot
 in_front [] zero m h = refl

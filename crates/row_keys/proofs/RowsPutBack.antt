@@ -1,4 +1,4 @@
--- Rows that were put back can be retracted, which leads back.
+-- Rows that were restored can be retracted, which leads back.
 use Rattle.std.proofs.Common.{◌≡◌, ℕ, zero, suc, true, false, List, [], ◌∷◌, length, refl, ap, sym, subst, ◌∙◌}
 use Rattle.std.proofs.lemmas.Option.{none-some}
 use Rattle.view_lang.specs.Config.{Table}

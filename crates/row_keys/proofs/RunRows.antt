@@ -261,7 +261,7 @@ run_at cs p to c is has =
     let same : c ≡ has.chunk = is ∙ get_or_from_slice_get cs p has.chunk c has.there in
     has.there ∙ ap Some (sym same)
 
--- A row's index is that of a machine.
+-- A row's index fits into a machine word.
 
 rising_long : (from end : ℕ) (ns : List ℕ) → AreRising from ns end → from + length ns ≤ end
 rising_long from end [] are = omega (arith, are)

@@ -1,4 +1,4 @@
--- A key that stands alone.
+-- The key of a batch of one row.
 use Rattle.std.proofs.Common.{◌≡◌, All, false, true, List, [], ◌∷◌, Some, length, get_or, refl, ap, sym, subst, ◌||◌, arith, Err, None, Ok, true≢false}
 use Rattle.std.specs.Prelude.{IsSome, OnOk, Option, Result}
 use Rattle.std.proofs.lemmas.List.Elements.{All-head}

@@ -1,4 +1,4 @@
--- What a store keeps, call by call.
+-- What a store stores, call by call.
 use Rattle.std.proofs.Common.{◌≡◌, inl, inr, ℕ, zero, suc, ◌+◌, ◌-◌, ◌<◌, ◌≤◌, Bool, true, false, List, [], ◌∷◌, None, Some, All, drop, length, take, get_or, refl, ap, sym, subst, ◌∙◌, arith, true≢false}
 use Rattle.std.specs.Prelude.{Option, MatchOption, if◌then◌else◌, slice_set}
 use Rattle.std.proofs.lemmas.List.{drop_all, drop_more}
@@ -232,7 +232,7 @@ row_joined (r ∷ rs) (x ∷ xs) (suc n) d same below = row_joined rs xs n d (om
 no_key : (t : Table) → HasKey t [] → ⊥
 no_key t key = true≢false key
 
--- a row with a key isn't gone
+-- a row with a key isn't released
 pub keyed_row : (t : Table) (row : List Datum) → IsRight t row → HasKey t row → IsRow t.columns row
 keyed_row t row (inl gone) key = absurd (no_key t (subst (HasKey t) gone key))
 keyed_row t row (inr is) key = is
@@ -266,7 +266,7 @@ live_joined (r ∷ rs) [] n below = absurd (omega (arith, below))
 live_joined (r ∷ rs) (x ∷ xs) zero below = refl
 live_joined (r ∷ rs) (x ∷ xs) (suc n) below = live_joined rs xs n (omega (arith, below))
 
--- A row that isn't live is gone.
+-- A row that isn't live is released.
 
 right_gone : (t : Table) (rows : List (List Datum)) (n : ℕ) → All (IsRight t) rows
     → All (IsRight t) (slice_set rows n [])
@@ -319,7 +319,7 @@ stored_gone t stored xs n is off = record {
 
 -- Several are, one after the other.
 
--- what is left to release
+-- what remains to be released
 pub record IsLeft (old : Store) (ns : List ℕ) (i : ℕ) (now : Store) : Type 0 where
   pub same : now ≡ with_slots old now.slots
   pub out : AllOut (drop i ns) now.slots

@@ -239,7 +239,7 @@ module _ (c left t : Chunk) (i : ℕ) (long : IsLong c) (below : c.first < t.fir
       let end = tail.end in
       (omega (arith, low, start), alone_left.1, (alone_left.2, tail.long, subst (λ e. AreChunks e ds len) (sym end) are.2))
 
--- the part before a place, the chunk there, and the part behind it
+-- the part before an index, the chunk there, and the part after it
 at_place : (cs : List Chunk) (p : ℕ) (c : Chunk) → slice_get cs p ≡ Some c → cs ≡ take p cs ++ c ∷ drop (p + 1) cs
 at_place [] p c there = absurd (none-some c there)
 at_place (x ∷ xs) zero c there = ap (λ y. y ∷ xs) (some_same x c there) ∙ sym (ap (λ ys. c ∷ ys) (drop_none xs))
@@ -278,7 +278,7 @@ split_at cs new len p i t are split known =
           (split_rows c split.left t i at.0 at.1 at.2 split.shortened ds n) ∙ ap (λ xs. row_in xs n) (sym whole)),
     )
 
--- what is done to the list: the tail is put behind the place, and the chunk there is shortened
+-- what is done to the list: the tail is inserted after the index, and the chunk there is shortened
 pub split_list :
     (cs mid new : List Chunk) (p : ℕ) (c left t : Chunk) → slice_get cs p ≡ Some c
     → mid ≡ take (p + 1) cs ++ t ∷ drop (p + 1) cs → new ≡ slice_set mid p left → IsShortened t.first c left
@@ -295,7 +295,7 @@ split_list cs mid new p c left t there put set short = record {
       ∙ set_end cs (t ∷ drop (p + 1) cs) p left below;
 }
 
--- what stands at the place where a chunk was put behind it
+-- the chunk at the index after which one was inserted
 pub place_kept : (cs mid : List Chunk) (p : ℕ) (t x : Chunk) → p < length cs → mid ≡ take (p + 1) cs ++ t ∷ drop (p + 1) cs
     → get_or mid p x ≡ get_or cs p x
 place_kept cs mid p t x below put =
@@ -307,7 +307,7 @@ place_kept cs mid p t x below put =
     kept (y ∷ ys) zero inside = refl
     kept (y ∷ ys) (suc k) inside = kept ys k (omega (arith, inside))
 
--- what is known of the chunk at a place
+-- what is known of the chunk at an index
 pub record IsThere (ls : Roses Layout) (cs : List Chunk) (p : ℕ) (c : Chunk) : Type 0 where
   pub there : slice_get cs p ≡ Some c
   pub long : IsLong c

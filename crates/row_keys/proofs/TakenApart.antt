@@ -1,4 +1,5 @@
--- Stores taken apart and made again: rows are numbered as retracted ones first, and then those come back that are live.
+-- Stores taken apart and made again: rows are numbered as retracted ones first, and then those are restored that are
+-- live.
 use Rattle.std.proofs.Common.{◌≡◌, inl, inr, ℕ, zero, suc, ◌+◌, ◌-◌, ◌<◌, ◌≤◌, Bool, true, false, List, [], ◌∷◌, ◌++◌, Some, All, get_or, length, map, take, refl, ap, subst, sym, ◌∙◌, add-one, arith, true≢false}
 use Rattle.std.specs.Prelude.{Option, None, if◌then◌else◌, nat_eq, replicate, slice_get}
 use Rattle.std.proofs.Math.Seq.{take-suc}
@@ -41,7 +42,7 @@ parts_order : (keys : List Key) (from len : ℕ) (ks : List RetainedEntry) → A
 parts_order keys from len [] are = are
 parts_order keys from len (k ∷ ks) are = (are.0, parts_order keys (suc k.number) len ks are.1)
 
--- the keys of all that is kept have places
+-- the keys of all entries have positions
 pub all_keyed : (keys : List Key) (hs : List ℕ) (ks : List RetainedEntry) (len live : ℕ) → IsRetainedIndex keys hs ks len live
     → All (λ k. k.entry.key < length keys) ks
 all_keyed keys hs ks len live is = go ks (λ p k there.
@@ -187,7 +188,7 @@ order_upto : (from len end : ℕ) (rs : List RowParts) → AreNumbered from rs l
 order_upto from len end [] are le = omega (arith, are, le)
 order_upto from len end (r ∷ rs) are le = (are.0, order_upto (suc r.number) len end rs are.1 le)
 
--- numbers after them are those of rows that are gone
+-- numbers after them are those of released rows
 pub skipped : (rs : List RowParts) (len end : ℕ) (old new : List Numbered) → AreNumbered 0 rs len → len ≤ end
     → old ≡ numbers_in rs len → new ≡ old ++ replicate (end - length old) no_row → new ≡ numbers_in rs end
 skipped rs len end old new are le is more =
@@ -199,7 +200,7 @@ skipped rs len end old new are le is more =
     (listed_all (numbered_at rs) no_row (0 + len) (end - len)
     (λ i from. none_past 0 len i rs are (omega (arith, from)))))
 
--- one more comes
+-- one more is added
 last_other : (rs : List RowParts) (r : RowParts) (n : ℕ) → (r.number ≡ n → ⊥)
     → numbered_at (rs ++ r ∷ []) n ≡ numbered_at rs n
 last_other [] r n other = part_other r [] n other
@@ -251,7 +252,7 @@ added_last rows len old new k None is pushes = pushes.1
 added_last rows len old new k (Some n) is pushes =
     absurd (none_live rows len n k (subst (λ xs. IsAt xs n k true) is pushes.0))
 
--- what has come before row i, and the numbers up to it
+-- what was added before row i, and the numbers up to it
 pub numbered_before :
     (rows : List RowParts) (len i : ℕ) (r : RowParts) (old : List Numbered) → AreNumbered 0 rows len
     → old ≡ retracted_in (take i rows) (end_of 0 (take i rows)) → i < length rows → r ≡ get_or rows i r
@@ -345,7 +346,7 @@ numbered_all rows len i old new are so_far le more =
     (subst P all (order_taken 0 len i rows are)) (end_within 0 len rows are)
     (so_far ∙ ap (λ rs. retracted_in rs (end_of 0 rs)) all) more
 
--- The live rows come back.
+-- The live rows are made live.
 
 -- the first i rows as they are in the parts, and the others retracted
 abbrev mixed : ℕ → List RowParts → List RowParts
@@ -409,7 +410,7 @@ dead_one (x ∷ xs) zero r at off =
     (ap (λ (y : RowParts). y.is_live) (some_same x r at) ∙ off)
 dead_one (x ∷ xs) (suc i) r at off = ap (λ ys. x ∷ ys) (dead_one xs i r at off)
 
--- what has come back is live in the parts
+-- what was made live is live in the parts
 live_in_parts : (rs : List RowParts) (i n : ℕ) (k : Key) → numbered_at (mixed i rs) n ≡ numbered k true
     → numbered_at rs n ≡ numbered k true
 live_in_parts rs zero n k is = absurd (part_dead rs n k is)

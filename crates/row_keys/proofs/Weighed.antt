@@ -51,7 +51,7 @@ range_is r order within =
     ∙ ap (λ j. rows_from cells j (r.batch.now.rows - r.from)) e)
     ∙ taken cells r.from (r.batch.now.rows - r.from) (r.to - r.from) (omega (arith, within))
 
--- what was weighed so far, and what is left to weigh
+-- what was weighed so far, and what remains to be weighed
 abbrev pub WeighedTo : ℕ → ℕ → ℕ → Type 0
 WeighedTo total sum left = sum < 2 ^ 64 - 1 → total ≤ sum + left
 

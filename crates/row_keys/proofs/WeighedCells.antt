@@ -79,7 +79,7 @@ bytes-beyond (node Struct kids) b = omega arith
 some-none : (n : ℕ) → Some n ≡ None → ⊥
 some-none n is = true≢false (ap is_some is)
 
--- A value is its slot, and the bytes that it has beyond.
+-- The weight of a value is that of its slot, and of the bytes that it has beyond.
 flat-weight : (t : Rose Layout) (d : Datum) (n : ℕ) → Some n ≡ bytes_beyond (shallow d) → weight t d ≤ null_weight t + n
 flat-weight t null n is = let w = null-null_weight t in omega (arith, w)
 flat-weight t (truth b) n is = let w = truth-null_weight t b in omega (arith, w)

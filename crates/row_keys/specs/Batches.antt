@@ -1,4 +1,4 @@
--- The checked columns of a batch that may be appended to a table, or that name its keys.
+-- The checked columns of a batch that may be appended to a table, or that has its keys.
 use Rattle.std.specs.Prelude.{◌≡◌, ℕ, All, List, [], ◌∷◌, get_or, length, map}
 use Rattle.values.specs.Datum.{Datum}
 use Rattle.values.specs.Layouts.{Holds, weight}
@@ -12,8 +12,8 @@ use Rattle.view_lang.specs.Config.{Table}
 use Rattle.view_lang.specs.Edits.{first_cell}
 use Rattle.view_lang.specs.Fields.{no_field}
 
--- Layouts of the same values: what the second holds the first holds, and it weighs the same. Layouts that differ only
--- in the width of offsets are so.
+-- Layouts of the same values: what the second holds the first holds, with the same weight. This holds of layouts that
+-- differ only in the width of offsets.
 pub record IsAlike (t u : Rose Layout) : Type 0 where
   pub holds : (d : Datum) → Holds u d → Holds t d
   pub weighs : (d : Datum) → weight t d ≡ weight u d

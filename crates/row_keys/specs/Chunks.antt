@@ -1,4 +1,4 @@
--- Rows in chunks: columns in which rows lie one after the other, the number of each, and which of them are gone.
+-- Rows in chunks: columns in which rows lie one after the other, the number of each, and which of them are released.
 use Rattle.std.specs.Prelude.{◌≡◌, ◌⊎◌, ℕ, suc, ◌+◌, ◌-◌, ◌<◌, ◌≤◌, Bool, true, false, if◌then◌else◌, min, nat_eq, nat_lt, All, List, [], ◌∷◌, ◌++◌, Some, get_or, length, slice_get, slice_set, take, refl}
 use Rattle.std.specs.Coded.{Coded, code_by, coded×, coded_ℕ, coded_bool, coded_list}
 use Rattle.std.specs.List.Sorted.{IsPartitionPoint}
@@ -8,8 +8,8 @@ use Rattle.schema_meta.specs.Rows.{row_at}
 use Rattle.row_keys.specs.Batches.{cells_in}
 use Rattle.row_keys.specs.Listed.{listed}
 
--- The rows of `span` numbers, of which the first is `first`, as far as they are kept: the number of each, its place in
--- columns of `rows` cells, and whether it is gone.
+-- The rows of `span` numbers, of which the first is `first`, as far as they are retained: the number of each, its index
+-- in columns of `rows` cells, and whether it is released.
 pub record Chunk : Type 0 where
   pub first : ℕ
   pub span : ℕ
@@ -37,16 +37,16 @@ chunk_code =
     (λ c. (c.first, (c.span, (c.numbers, (c.rows, (c.columns, c.gone))))))
     (λ p. chunk p.0 p.1.0 p.1.1.0 p.1.1.1.0 p.1.1.1.1.0 p.1.1.1.1.1) (λ _. refl)
 
--- n numbers one after the other
+-- n consecutive numbers
 abbrev pub in_turn : ℕ → ℕ → List ℕ
 in_turn first n = listed (λ i. i) first n
 
--- the numbers of n rows: where none are listed they follow one another
+-- the numbers of n rows: where none are listed they are consecutive
 abbrev pub numbers_by : List ℕ → ℕ → ℕ → List ℕ
 numbers_by [] first n = in_turn first n
 numbers_by (m ∷ ms) first n = m ∷ ms
 
--- the place of a number among these, which is past the end where it isn't one of them
+-- the index of a number among these, which is past the end where it isn't one of them
 abbrev pub place_in : List ℕ → ℕ → ℕ
 place_in [] n = 0
 place_in (m ∷ ms) n = if nat_eq m n then 0 else suc (place_in ms n)
@@ -56,7 +56,7 @@ abbrev pub AreRising : ℕ → List ℕ → ℕ → Type 0
 AreRising from [] end = from ≤ end
 AreRising from (n ∷ ns) end = (from ≤ n) × AreRising (suc n) ns end
 
--- row i of a chunk: one that is gone has no cells
+-- row i of a chunk: a released one has no cells
 abbrev pub chunk_row : Chunk → ℕ → List Datum
 chunk_row c i = if get_or c.gone i true then [] else row_at (cells_in c.columns) i
 
@@ -74,8 +74,8 @@ row_in (c ∷ cs) n =
 abbrev pub stored_rows : List Chunk → ℕ → List (List Datum)
 stored_rows chunks len = listed (row_in chunks) 0 len
 
--- Each row has a number among those of the chunk, and a cell in each column. Where all rows are gone there may be no
--- columns.
+-- Each row has a number among those of the chunk, and a cell in each column. Where all rows are released there may be
+-- no columns.
 pub record IsLong (c : Chunk) : Type 0 where
   pub long : All (λ k. length k.cells ≡ c.rows) c.columns
   pub few : length c.gone ≤ c.rows
@@ -87,7 +87,7 @@ abbrev pub AreChunks : ℕ → List Chunk → ℕ → Type 0
 AreChunks from [] len = from ≤ len
 AreChunks from (c ∷ cs) len = (from ≤ c.first) × IsLong c × AreChunks (c.first + c.span) cs len
 
--- the place of number n among these, if it is one of them
+-- the index of number n among these, if it is one of them
 abbrev pub IsPlaceOf : List ℕ → ℕ → ℕ → Type 0
 IsPlaceOf ns n i = (i < length ns) × (place_in ns n ≡ i)
 
@@ -109,7 +109,7 @@ pub record LiesAt (chunks : List Chunk) (n p i : ℕ) : Type 0 where
   pub place : place_in lies.chunk.numbers n ≡ i
   pub within : i < length lies.chunk.gone
 
--- Row i of a chunk is gone, and where all are its columns may be.
+-- Row i of a chunk is released, and where all rows are, its columns may be too.
 pub record Releases (old : Chunk) (i : ℕ) (new : Chunk) : Type 0 where
   pub first : new.first ≡ old.first
   pub span : new.span ≡ old.span
@@ -134,7 +134,7 @@ abbrev pub EndsAbove : List Chunk → ℕ → Bool → Type 0
 EndsAbove cs n true = (front : List Chunk) × (c : Chunk) × (cs ≡ front ++ c ∷ []) × (n ≤ c.first)
 EndsAbove cs n false = (cs ≡ []) ⊎ ((front : List Chunk) × (c : Chunk) × (cs ≡ front ++ c ∷ []) × (c.first < n))
 
--- so many of these numbers, the first of them, are below n
+-- this many of these numbers, the first of them, are below n
 abbrev pub AreBelow : ℕ → List ℕ → ℕ → Type 0
 AreBelow n ns k = IsPartitionPoint (λ m. nat_lt m n ≡ true) (λ m. nat_lt m n ≡ false) ns k
 

@@ -1,4 +1,4 @@
--- The live rows with these keys, or why one isn't there.
+-- The live rows with these keys, or why one key has none.
 use Rattle.std.specs.Prelude.{◌≡◌, ℕ, true, false, List, [], ◌∷◌, filter}
 use Rattle.values.specs.Datum.{Datum}
 use Rattle.values.specs.Keys.{datum_of_key}
@@ -18,7 +18,7 @@ FindsAll [] rows (n ∷ ns) = ⊥
 FindsAll (d ∷ ds) rows [] = ⊥
 FindsAll (d ∷ ds) rows (n ∷ ns) = ((key : Key) × (datum_of_key key ≡ d) × IsAt rows n key true) × FindsAll ds rows ns
 
--- of these keys those that live rows have
+-- those of these keys that live rows have
 abbrev pub known_keys : List Datum → List Numbered → List Datum
 known_keys cells rows = filter (λ d. is_among d (live_keys rows)) cells
 

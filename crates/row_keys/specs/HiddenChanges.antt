@@ -1,11 +1,11 @@
--- Changes of side tables that are taken back for a while, and come again. Of a put of b', which replaces b, with what
--- is retracted in parentheses:
+-- Changes of side tables that are hidden for a while, and shown again. Of a put of b', which replaces b, with what is
+-- retracted in parentheses:
 --
 --     before       a    b
---     put          a   (b)   b'     the change is there
---     hidden       a    b   (b')    it is taken back, and the numbers stay
---     shown        a   (b)   b'     it comes again
---     forgotten    a    b           of the hidden ones: the rows that it brought are removed
+--     put          a   (b)   b'     the change is made
+--     hidden       a    b   (b')    it is reverted, and the numbers stay
+--     shown        a   (b)   b'     it is made again
+--     forgotten    a    b           of the hidden ones: the rows that it added are removed
 use Rattle.std.specs.Prelude.{◌≡◌, ℕ, ◌++◌, ◌<◌, ◌≤◌, All, List, [], length}
 use Rattle.values.specs.Datum.{Datum}
 use Rattle.view_lang.specs.Config.{Table}
@@ -38,7 +38,7 @@ shown (Appended n) slots = slots
 shown (Retracted ns) slots = retracted ns.items slots
 shown (Put n replaced) slots = put_shown n replaced.items slots
 
--- the rows that are left when the hidden ones are removed
+-- the remaining rows when the hidden ones are removed
 abbrev pub forgotten : TableChange → List Slot → List Slot
 forgotten (Appended n) slots = slots
 forgotten (Retracted ns) slots = slots
@@ -49,7 +49,7 @@ CanShow t (Appended n) slots = ⊥
 CanShow t (Retracted ns) slots = CanRetract ns.items slots
 CanShow t (Put n replaced) slots = CanShowPut t n replaced.items slots
 
--- The change of a side table was taken back, and can come again.
+-- The change of a side table was reverted, and can be made again.
 pub record IsHidden (t : Table) (c : TableChange) (slots : List Slot) : Type 0 where
   pub before : List Slot
   pub can_go_back : CanGoBack t c before

@@ -1,9 +1,9 @@
--- How rows are found by their keys. Each row names the place of its key in a table of keys, and each key has a holder:
--- the row that came last with it. So the live row with a key is its holder, unless that was retracted.
+-- How rows are found by their keys. Each row stores the position of its key in a table of keys, and each key has a
+-- holder: the row that was last added with it. So the live row with a key is its holder, unless that was retracted.
 --
 --     number    0    1    2     3
---     entry     0    1    0     1     the place of the row's key
---     live      no   no   yes   no    row 2 came for row 0, and row 3 for row 1, which was retracted in its turn
+--     entry     0    1    0     1     the position of the row's key
+--     live      no   no   yes   no    row 2 replaced row 0, and row 3 row 1 and was then retracted
 --
 --     place     0    1
 --     key       p    q
@@ -42,15 +42,15 @@ seen keys e = numbered (get_or keys e.key key.Null) e.is_live
 abbrev pub seen_all : List Key → List Entry → List Numbered
 seen_all keys entries = map (seen keys) entries
 
--- row n is live, and its key is the one at that place
+-- row n is live, and its key is the one at that position
 abbrev pub HoldsPlace : List Entry → ℕ → ℕ → Type 0
 HoldsPlace entries place n = (e : Entry) × (slice_get entries n ≡ Some e) × (e.key ≡ place) × (e.is_live ≡ true)
 
--- the key at this place has no holder, or one that isn't live with it
+-- the key at this position has no holder, or one that isn't live with it
 abbrev pub IsFree : List ℕ → List Entry → ℕ → Type 0
 IsFree holders entries place = (n : ℕ) → slice_get holders place ≡ Some n → HoldsPlace entries place n → ⊥
 
--- Row n becomes the holder of the key at this place, which has a holder or is the next one.
+-- Row n becomes the holder of the key at this position, which has a holder or is the next one.
 abbrev pub Puts : List ℕ → ℕ → ℕ → List ℕ → Type 0
 Puts old place n new = ((place ≡ length old) × (new ≡ old ++ n ∷ [])) ⊎ ((place < length old) × (new ≡ set old place n))
 
@@ -59,14 +59,14 @@ flagged b [] n = []
 flagged b (e ∷ es) zero = record { key = e.key; is_live = b; is_new = e.is_new } ∷ es
 flagged b (e ∷ es) (suc n) = e ∷ flagged b es n
 
--- Place 0 is that of the null key, which is the key of rows that are gone. It is given before the first row comes.
+-- Position 0 is that of the null key, which is the key of released rows. It is assigned before the first row is added.
 abbrev pub StartsWithNull : List Key → List ℕ → List Key → List ℕ → Type 0
 StartsWithNull keys holders keys_new holders_new =
     ((0 < length keys) × (keys_new ≡ keys) × (holders_new ≡ holders))
     ⊎ ((keys ≡ []) × (holders ≡ []) × (keys_new ≡ key.Null ∷ []) × (holders_new ≡ 0 ∷ []))
 
--- What holds of keys, holders and entries. A row that brought its key has a key after those of all rows before it, so
--- that the key can go when the row does.
+-- What holds of keys, holders and entries. A row that added its key has a key after those of all rows before it, so
+-- that the key can be removed when the row is.
 pub record IsIndex (keys : List Key) (holders : List ℕ) (entries : List Entry) (live : ℕ) : Type 0 where
   pub as_many : length holders ≡ length keys
   pub keyed : (n : ℕ) (e : Entry) → slice_get entries n ≡ Some e → e.key < length keys
@@ -78,7 +78,7 @@ pub record IsIndex (keys : List Key) (holders : List ℕ) (entries : List Entry)
   pub null_first : 0 < length keys → slice_get keys 0 ≡ Some key.Null
   pub after_null : (n : ℕ) (e : Entry) → slice_get entries n ≡ Some e → e.is_new ≡ true → 0 < e.key
 
--- The same of what is kept of rows: there are no more numbers than can be counted.
+-- The same of retained entries: there are no more numbers than can be counted.
 pub record IsRetainedIndex (keys : List Key) (holders : List ℕ) (kept : List RetainedEntry) (len live : ℕ) : Type 0 where
   pub index : IsIndex keys holders (all_entries kept len) live
   pub order : AreInOrder 0 kept len

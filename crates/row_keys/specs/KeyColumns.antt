@@ -20,7 +20,7 @@ HoldsKeys t = (d : Datum) → Holds t d → IsSome (key_of d)
 abbrev pub fresh : Key → Numbered
 fresh k = numbered k true
 
--- A row with the key of cell i comes last.
+-- A row with the key of cell i is added at the end.
 pub record PushesKey (cells : List Datum) (i : ℕ) (old new : List Numbered) : Type 0 where
   pub key : Key
   pub is : datum_of_key key ≡ get_or cells i null
@@ -28,7 +28,7 @@ pub record PushesKey (cells : List Datum) (i : ℕ) (old new : List Numbered) : 
   pub unused : IsUnused old key
   pub pushed : new ≡ old ++ fresh key ∷ []
 
--- It can't: a key from there on is null, or else this one is a live row's.
+-- It can't be: a key from there on is null, or else this one is a live row's.
 abbrev pub RefusesKey : List Datum → ℕ → List Numbered → EditFault → Type 0
 RefusesKey cells i old (fault.Unfit unfit.NullKey) = has_null (drop i cells) ≡ true
 RefusesKey cells i old (fault.Unfit unfit.DuplicateKey) =
@@ -37,12 +37,12 @@ RefusesKey cells i old (fault.Unfit unfit.DuplicateKey) =
 RefusesKey cells i old fault.Memory = Unit {0}
 RefusesKey cells i old _ = ⊥
 
--- why a key is refused that a live row has, by whether it or a later one is null
+-- why a live row's key is refused, by whether it or a later one is null
 abbrev pub used_key : Bool → EditFault
 used_key true = fault.Unfit unfit.NullKey
 used_key false = fault.Unfit unfit.DuplicateKey
 
--- Rows with all these keys come last.
+-- Rows with all these keys are added at the end.
 pub record PushesKeys (cells : List Datum) (old new : List Numbered) : Type 0 where
   pub keys : List Key
   pub are : map datum_of_key keys ≡ cells

@@ -1,7 +1,7 @@
--- What a function has for numbers, one after the other.
+-- The values of a function at numbers, in order.
 use Rattle.std.specs.Prelude.{ℕ, zero, suc, List, [], ◌∷◌}
 
--- what it has for m numbers from n on
+-- those at m numbers from n on
 abbrev pub listed : {X : Type 0} → (ℕ → X) → ℕ → ℕ → List X
 listed f n zero = []
 listed f n (suc m) = f n ∷ listed f (suc n) m

@@ -1,4 +1,4 @@
--- What each change of a store does to its live rows under their numbers.
+-- What each change of a store does to its live rows by their numbers.
 use Rattle.std.specs.Prelude.{◌≡◌, ℕ, ◌-◌, ◌≤◌, All, List, [], ◌++◌, Some, length, map}
 use Rattle.std.specs.List.{range_with_len}
 use Rattle.std.specs.List.Sorted.{IsStrictlySortedBy}
@@ -45,11 +45,11 @@ ChangesAdd =
 abbrev pub NumbersAscend : Type 0
 NumbersAscend = (slots : List Slot) → IsStrictlySortedBy nat_cmp (keys_of (numbered slots))
 
--- the rows under them are the live ones, in order,
+-- the rows of the numbers are the live ones, in order,
 abbrev pub RowsAreLive : Type 0
 RowsAreLive = (slots : List Slot) → values_of (numbered slots) ≡ live slots
 
--- and each is under its own number.
+-- and each has its own number.
 abbrev pub RowsAreAtNumbers : Type 0
 RowsAreAtNumbers = (slots : List Slot) (n : ℕ) → row_at n (numbered slots) ≡ live_at slots n
 
@@ -58,7 +58,7 @@ abbrev pub RetractedWereLive : Type 0
 RetractedWereLive =
     (ns : List ℕ) (slots : List Slot) → CanRetract ns slots → All (λ n. live_at slots n ≡ Some (row_of slots n)) ns
 
--- Retracted rows go.
+-- Retracting rows deletes them.
 abbrev pub RetractedGo : Type 0
 RetractedGo =
     (ns : List ℕ) (slots : List Slot) → CanRetract ns slots
@@ -70,13 +70,13 @@ LiveCanGo =
     (ns : List ℕ) (slots : List Slot) → IsStrictlySortedBy nat_cmp ns
     → All (λ n. live_at slots n ≡ Some (row_of slots n)) ns → CanRetract ns slots
 
--- and come back where they were.
+-- and then be inserted again where they were.
 abbrev pub RetractedComeBack : Type 0
 RetractedComeBack =
     (ns : List ℕ) (slots : List Slot) → CanRetract ns slots
     → Leads (numbered (retracted ns slots)) (come slots ns) (numbered slots)
 
--- Rows that are put back come.
+-- Restoring retracted rows inserts them.
 abbrev pub PutBackCome : Type 0
 PutBackCome =
     (t : Table) (ns : List ℕ) (slots : List Slot) → CanPutBack t ns slots
@@ -85,14 +85,14 @@ PutBackCome =
 abbrev pub with_new : List Slot → List (List Datum) → List Slot
 with_new slots rows = slots ++ map new_slot rows
 
--- New rows come, under the numbers after all others.
+-- Appending rows inserts them, with the numbers after all others.
 abbrev pub NewCome : Type 0
 NewCome =
     (slots : List Slot) (rows : List (List Datum))
     → Leads (numbered slots) (come (with_new slots rows) (range_with_len (length slots) (length rows)))
     (numbered (with_new slots rows))
 
--- Rows that are taken back go: they have the last numbers.
+-- Reverting an append deletes rows: those with the last numbers.
 abbrev pub RevertedGo : Type 0
 RevertedGo =
     (n : ℕ) (slots : List Slot) → CanRevert n slots
@@ -102,35 +102,35 @@ RevertedGo =
 abbrev pub FewRetracted : Type 0
 FewRetracted = (ns : List ℕ) (slots : List Slot) → CanRetract ns slots → length ns ≤ length (live slots)
 
--- and rows that are put back no more than those that are live then.
+-- and rows that are restored no more than those that are live then.
 abbrev pub FewPutBack : Type 0
 FewPutBack =
     (t : Table) (ns : List ℕ) (slots : List Slot) → CanPutBack t ns slots
     → length ns ≤ length (live (put_back ns slots))
 
--- Where a put is hidden its rows go, and those come that they replaced.
+-- Hiding a put deletes its rows, and inserts those that they replaced.
 abbrev pub HiddenPutGoes : Type 0
 HiddenPutGoes =
     (t : Table) (ns : List ℕ) (n : ℕ) (slots : List Slot) → CanUndoPut t n ns slots
     → Leads (numbered slots) (gone slots (last_numbers n slots) ++ come slots ns) (numbered (put_hidden n ns slots))
 
--- Then those rows are live that are so where it is undone.
+-- Then the same rows are live as where it is undone.
 abbrev pub HiddenIsUndone : Type 0
 HiddenIsUndone =
     (t : Table) (ns : List ℕ) (n : ℕ) (slots : List Slot) → CanUndoPut t n ns slots
     → live (put_hidden n ns slots) ≡ live (put_undone n ns slots)
 
--- Where it is shown again those go, and its rows come.
+-- Showing it again deletes those, and inserts its rows.
 abbrev pub ShownPutComes : Type 0
 ShownPutComes =
     (t : Table) (ns : List ℕ) (n : ℕ) (slots : List Slot) → CanShowPut t n ns slots
     → Leads (numbered slots) (gone slots ns ++ come slots (last_numbers n slots)) (numbered (put_shown n ns slots))
 
--- All live rows come where there were none.
+-- All live rows are inserted where there were none.
 abbrev pub AllCome : Type 0
 AllCome = (slots : List Slot) → Leads [] (come slots (keys_of (numbered slots))) (numbered slots)
 
--- Where rows are gone that aren't live, nothing is seen of it: the table is what it was, and so are the live rows under
+-- Releasing rows that aren't live changes nothing that is seen: the table is what it was, and so are the live rows by
 -- their numbers.
 abbrev pub ReleasedUnseen : Type 0
 ReleasedUnseen =

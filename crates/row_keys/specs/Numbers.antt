@@ -1,4 +1,4 @@
--- Rows by number, as their keys know them: each row has a key, and is live or retracted.
+-- Rows by number and key: each row has a key, and is live or retracted.
 use Rattle.std.specs.Prelude.{
   ◌≡◌,
   ℕ,
@@ -63,16 +63,16 @@ abbrev pub live_count : List Numbered → ℕ
 live_count [] = 0
 live_count (x ∷ xs) = if x.live then suc (live_count xs) else live_count xs
 
--- A row with this key comes last, unless a live row has it: then that one's number is found.
+-- A row with this key is added at the end, unless a live row has it: then that one's number is found.
 abbrev pub Pushes : List Numbered → Key → Option ℕ → List Numbered → Type 0
 Pushes old k None new = IsUnused old k × (new ≡ old ++ numbered k true ∷ [])
 Pushes old k (Some n) new = IsAt old n k true × (new ≡ old)
 
--- Row n is retracted, and one with its key comes last.
+-- Row n is retracted, and one with its key is added at the end.
 abbrev pub Replaces : List Numbered → ℕ → List Numbered → Type 0
 Replaces old n new = (k : Key) → IsAt old n k true → new ≡ turned false old n ++ numbered k true ∷ []
 
--- These rows are live, each in its turn, and are retracted.
+-- These rows are live, each when its turn comes, and are retracted.
 
 abbrev pub turned_off : List ℕ → List Numbered → List Numbered
 turned_off [] rows = rows
@@ -82,11 +82,11 @@ abbrev pub AreLive : List ℕ → List Numbered → Type 0
 AreLive [] rows = Unit {0}
 AreLive (n ∷ ns) rows = ((k : Key) × IsAt rows n k true) × AreLive ns (turned false rows n)
 
--- Row n was retracted, and isn't gone, and no live row has its key.
+-- Row n was retracted, and isn't released, and no live row has its key.
 abbrev pub CanTurnOn : List Numbered → ℕ → Type 0
 CanTurnOn rows n = (k : Key) × IsAt rows n k false × IsUnused rows k × (is_null (datum_of_key k) ≡ false)
 
--- These rows were retracted, and become live, the last one first. In their turn none of their keys is a live row's.
+-- These rows were retracted, and become live, the last one first. When its turn comes no live row has its key.
 
 abbrev pub revived : List ℕ → List Numbered → List Numbered
 revived [] rows = rows

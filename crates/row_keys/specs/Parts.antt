@@ -1,4 +1,4 @@
--- What a store is made of.
+-- The parts of a store.
 use Rattle.std.specs.Prelude.{
   ℕ,
   suc,
@@ -25,7 +25,7 @@ use Rattle.row_keys.specs.declared.numbers.RetainedEntry.{RetainedEntry}
 use Rattle.row_keys.specs.declared.parts.RowParts.{RowParts}
 use Rattle.row_keys.specs.declared.parts.StoreParts.{StoreParts}
 
--- the row of number n: one that is gone where none of these has it
+-- the row of number n: a released one where none of these has it
 abbrev pub numbered_at : List RowParts → ℕ → Numbered
 numbered_at [] n = no_row
 numbered_at (r ∷ rs) n = if nat_eq r.number n then numbered r.key r.is_live else numbered_at rs n
@@ -46,7 +46,7 @@ retracted_part r = record { number = r.number; key = r.key; is_live = false }
 abbrev pub retracted_in : List RowParts → ℕ → List Numbered
 retracted_in rows len = numbers_in (map retracted_part rows) len
 
--- what an entry keeps of a row
+-- what an entry stores of a row
 abbrev pub part_of : List Key → RetainedEntry → RowParts
 part_of keys k = record {
   number = k.number;
@@ -62,7 +62,7 @@ store_with p = record {
   visits = p.visits;
 }
 
--- The rows are rows of the table or gone, each under its own key, and no two live ones have the same.
+-- The rows are rows of the table or released, each with its own key, and no two live ones have the same.
 pub record AreStoreParts (p : StoreParts) : Type 0 where
   pub chunks : AreChunks 0 p.chunks.items p.appended
   pub order : AreNumbered 0 p.rows.items p.appended

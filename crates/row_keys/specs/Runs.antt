@@ -4,7 +4,7 @@ use Rattle.values.specs.Datum.{Datum}
 use Rattle.row_keys.specs.Batches.{batch_rows}
 use Rattle.row_keys.specs.Chunks.{Chunk, IsLong}
 
--- all rows that lie in the columns of the chunk at this place
+-- all rows that lie in the columns of the chunk at this index
 abbrev pub rows_at : List Chunk → ℕ → List (List Datum)
 rows_at [] p = []
 rows_at (c ∷ cs) zero = batch_rows c.rows c.columns
@@ -14,7 +14,7 @@ rows_at (c ∷ cs) (suc p) = rows_at cs p
 abbrev pub run_rows : List Chunk → ℕ → ℕ → ℕ → List (List Datum)
 run_rows cs p from to = take (to - from) (drop from (rows_at cs p))
 
--- That chunk has so many rows.
+-- That chunk has this many rows.
 pub record HasRun (cs : List Chunk) (p to : ℕ) : Type 0 where
   pub chunk : Chunk
   pub there : slice_get cs p ≡ Some chunk
@@ -25,12 +25,12 @@ pub record HasRun (cs : List Chunk) (p to : ℕ) : Type 0 where
 abbrev pub IsWideAt : List Chunk → ℕ → ℕ → Type 0
 IsWideAt cs p w = (c : Chunk) → slice_get cs p ≡ Some c → length c.columns ≡ w
 
--- how many numbers of these aren't one above the one before them, of which the last is n
+-- how many of these numbers aren't the one after the number before them, where n is before the first
 abbrev pub turns_from : ℕ → List ℕ → ℕ
 turns_from n [] = 0
 turns_from n (m ∷ ms) = (if nat_eq m (n + 1) then 0 else 1) + turns_from m ms
 
--- how many runs of numbers there are that follow one another
+-- how many runs of consecutive numbers there are
 abbrev pub runs_in : List ℕ → ℕ
 runs_in [] = 0
 runs_in (n ∷ ns) = 1 + turns_from n ns

@@ -1,5 +1,5 @@
--- The rows of a store by number: a row's number is its place. Retracted rows keep their numbers; those of an append
--- that is taken back are given again.
+-- The rows of a store by number: a row's number is its position. Retracted rows keep their numbers; those of an append
+-- that is undone are given again.
 use Rattle.std.specs.Prelude.{
   ◌≡◌,
   ℕ,
@@ -43,7 +43,7 @@ unfoldable pub live : List Slot → List (List Datum)
 live [] = []
 live (s ∷ ss) = if s.live then s.row ∷ live ss else live ss
 
--- the table that they are
+-- the contents of the table that has them
 abbrev pub contents_of : List Slot → Contents
 contents_of slots = record { live = live slots; appended = length slots }
 
@@ -70,7 +70,7 @@ keys_at t ns slots = map (λ n. key_in t (row_of slots n)) ns
 abbrev pub IsThere : List Slot → ℕ → Bool → Type 0
 IsThere slots n b = (row : List Datum) × (slice_get slots n ≡ Some (slot row b))
 
--- These rows are live, each in its turn: none is named twice.
+-- These rows are live, each when its turn comes: none is named twice.
 unfoldable pub CanRetract : List ℕ → List Slot → Type 0
 CanRetract [] slots = Unit {0}
 CanRetract (n ∷ ns) slots = IsThere slots n true × CanRetract ns (marked false slots n)
@@ -80,16 +80,16 @@ unfoldable pub retracted : List ℕ → List Slot → List Slot
 retracted [] slots = slots
 retracted (n ∷ ns) slots = retracted ns (marked false slots n)
 
--- Retracted rows are put back in the other order: the last one named is the first to be live again.
+-- Retracted rows are restored in the other order: the last one named is the first to be live again.
 unfoldable pub put_back : List ℕ → List Slot → List Slot
 put_back [] slots = slots
 put_back (n ∷ ns) slots = marked true (put_back ns slots) n
 
--- The row has a key, so it isn't gone.
+-- The row has a key, so it isn't released.
 abbrev pub HasKey : Table → List Datum → Type 0
 HasKey t row = is_null (key_in t row) ≡ false
 
--- These rows were retracted and aren't gone, and in their turn none of their keys is live.
+-- These rows were retracted and aren't released, and when the turn of each comes no live row has its key.
 unfoldable pub AreRetracted : Table → List ℕ → List Slot → Type 0
 AreRetracted t [] slots = Unit {0}
 AreRetracted t (n ∷ ns) slots =
@@ -109,7 +109,7 @@ CanRevert n slots = n ≤ length slots
 unfoldable pub reverted : ℕ → List Slot → List Slot
 reverted n slots = take (length slots - n) slots
 
--- Rows that were put go away again, and the rows come back that they replaced.
+-- Rows that were put are removed, and the rows are restored that they replaced.
 abbrev pub put_undone : ℕ → List ℕ → List Slot → List Slot
 put_undone n replaced slots = put_back replaced (reverted n slots)
 
@@ -117,31 +117,31 @@ put_undone n replaced slots = put_back replaced (reverted n slots)
 abbrev pub last_numbers : ℕ → List Slot → List ℕ
 last_numbers n slots = range_with_len (length slots - n) n
 
--- The last n rows are live and can go, and then the rows that they replaced can come back.
+-- The last n rows are live and can be removed, and then the rows that they replaced can be restored.
 abbrev pub CanUndoPut : Table → ℕ → List ℕ → List Slot → Type 0
 CanUndoPut t n replaced slots =
     CanRevert n slots × CanPutBack t replaced (reverted n slots) × CanRetract (last_numbers n slots) slots
 
--- Rows that were put are retracted, and the rows come back that they replaced. No number is given free.
+-- Rows that were put are retracted, and the rows are restored that they replaced. No number is freed.
 abbrev pub put_hidden : ℕ → List ℕ → List Slot → List Slot
 put_hidden n replaced slots = put_back replaced (retracted (last_numbers n slots) slots)
 
--- The rows that they replaced are retracted again, and they are put back.
+-- The rows that they replaced are retracted again, and they are restored.
 abbrev pub put_shown : ℕ → List ℕ → List Slot → List Slot
 put_shown n replaced slots = put_back (last_numbers n slots) (retracted replaced slots)
 
--- The rows that they replaced can be retracted, and then the last n rows can be put back.
+-- The rows that they replaced can be retracted, and then the last n rows can be restored.
 abbrev pub CanShowPut : Table → ℕ → List ℕ → List Slot → Type 0
 CanShowPut t n replaced slots =
     CanRevert n slots × CanRetract replaced slots × CanPutBack t (last_numbers n slots) (retracted replaced slots)
 
--- the slots when the row of that number is gone: of it no more is known than that it had a number
+-- the slots when the row of that number is released: no more is known of it than that it had a number
 abbrev pub emptied : List Slot → ℕ → List Slot
 emptied [] n = []
 emptied (s ∷ ss) zero = no_slot ∷ ss
 emptied (s ∷ ss) (suc n) = s ∷ emptied ss n
 
--- the slots when those of all these are
+-- the slots when those of all these are released
 abbrev pub released : List ℕ → List Slot → List Slot
 released [] slots = slots
 released (n ∷ ns) slots = released ns (emptied slots n)

@@ -77,7 +77,7 @@ IsKnown s cell n =
 abbrev pub IsUnknown : Store → Datum → Type 0
 IsUnknown s cell = side_of s.table (contents_of s.slots) cell ≡ None
 
--- A refusal is right: that cause is the least, or memory ran out.
+-- A refusal is right: that cause is the least, or memory was refused.
 abbrev pub Refuses : Option Unfit → EditFault → Type 0
 Refuses cause (fault.Unfit u) = cause ≡ Some u
 Refuses cause fault.Memory = Unit {0}

@@ -1,4 +1,4 @@
--- How rows are stored: their cells, and the keys under which they are numbered.
+-- How rows are stored: their cells, and the keys by which they are numbered.
 use Rattle.std.specs.Prelude.{◌≡◌, ◌⊎◌, ℕ, ◌≤◌, true, false, All, List, [], ◌∷◌, if◌then◌else◌}
 use Rattle.values.specs.Datum.{Datum, is_null, items_of}
 use Rattle.values.specs.Keys.{datum_of_key}
@@ -18,7 +18,7 @@ joined [] numbers = []
 joined (r ∷ rs) [] = []
 joined (r ∷ rs) (n ∷ ns) = slot r n.live ∷ joined rs ns
 
--- each row's key is the one under which it is numbered
+-- each row's key is the one by which it is numbered
 abbrev pub AreKeyed : Table → List (List Datum) → List Numbered → Type 0
 AreKeyed t [] [] = Unit {0}
 AreKeyed t [] (n ∷ ns) = ⊥
@@ -31,7 +31,7 @@ IsLightRow t row = is_heavy (layouts_of t) row ≡ false
 abbrev pub HoldsRow : Table → List Datum → Type 0
 HoldsRow t row = HoldsEach (layouts_of t) (items_of row)
 
--- a row of the table, unless it is gone
+-- a row of the table, unless it is released
 abbrev pub IsRight : Table → List Datum → Type 0
 IsRight t row = (row ≡ []) ⊎ IsRow t.columns row
 
@@ -39,7 +39,7 @@ IsRight t row = (row ≡ []) ⊎ IsRow t.columns row
 abbrev pub AreGiven : List Numbered → Type 0
 AreGiven numbers = (n : ℕ) (k : Key) → IsAt numbers n k true → is_null (datum_of_key k) ≡ false
 
--- What holds of rows and of their numbers. A row that is gone has no cells, and is numbered under the null key.
+-- What holds of rows and of their numbers. A released row has no cells, and is numbered with the null key.
 pub record IsStored (t : Table) (rows : List (List Datum)) (numbers : List Numbered) : Type 0 where
   pub table : IsTable t
   pub right : All (IsRight t) rows

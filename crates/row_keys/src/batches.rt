@@ -1,4 +1,4 @@
-//! The columns of batches: what holds of them, which are refused, and the rows in them.
+//! The columns of batches: what holds of them, which of them are refused, and the rows in them.
 
 ghost use Rattle.std.specs.Prelude.{◌≡◌, ◌<◌, ◌++◌, All, IfErr, IfOk, OnErr, OnOk, length, false};
 ghost use Rattle.values.specs.Datum.{items_of};

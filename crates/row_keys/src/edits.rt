@@ -1,4 +1,4 @@
-//! Makes the edits that batches are, and takes them back.
+//! Applies the edits of batches, and reverts them.
 
 ghost use Rattle.std.specs.Prelude.{◌≡◌, ℕ, suc, IfErr, IfOk, None, OnOk};
 ghost use Rattle.view_lang.specs.Causes.{cause_of};
@@ -76,7 +76,7 @@ impl RowStore {
         Ok(TableChange::Put { rows, replaced })
     }
 
-    /// Makes the edit that a batch is, by the role of its feed.
+    /// Applies the edit of a batch, by the role of its feed.
     pub fn edit(
         &mut self,
         role: Role,
@@ -95,7 +95,7 @@ impl RowStore {
         }
     }
 
-    /// Takes back a change of a store's rows. It takes no memory.
+    /// Reverts a change of a store's rows. It takes no memory.
     pub fn restore(&mut self, change: &TableChange)
         requires { CanGoBack self.old.table change.now self.old.slots }
         ensures { self.new ≡ with_slots self.old (back change.now self.old.slots) }

@@ -11,7 +11,7 @@ use view_lang::Unfit;
 pub enum EditFault {
     /// The edit doesn't fit; of several causes this is the one with the lowest number.
     Unfit(Unfit),
-    /// Memory ran out.
+    /// Memory was refused.
     Memory,
 }
 

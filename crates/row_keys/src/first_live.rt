@@ -8,8 +8,8 @@ use crate::store::RowStore;
 use std::alloc::{AllocError, Global};
 
 impl RowStore {
-    /// The numbers of the first live rows, in order, at most `most` of them. Retracted rows before them that can be put
-    /// back are passed over one by one, and gone ones at once.
+    /// The numbers of the first live rows, in order, at most `most` of them. Retracted rows before them are skipped one
+    /// by one, and released ones at once.
     pub fn first_live_numbers(&self, alloc: Global, most: usize) -> Result<Vec<usize>, AllocError>
         ensures { IfOk result (λ numbers. numbers.items ≡ take most (keys_of (numbered self.now.slots))) }
     {

@@ -1,4 +1,4 @@
-//! Takes changes of a side table back for a while, and makes them again; forgets what they retracted.
+//! Hides changes of a side table for a while, and shows them again; releases what they retracted.
 
 ghost use Rattle.std.specs.Prelude.{◌≡◌, ◌<◌, ◌≤◌, ◌+◌, ◌^◌, All, IfOk, length, map};
 ghost use Rattle.std.specs.List.{range_with_len};
@@ -43,8 +43,8 @@ impl RowStore {
         numbers_from(self.alloc(), self.appended() - count, count)
     }
 
-    /// Takes a change of a side table back, so that it can be made again: its rows keep their numbers. It takes no
-    /// memory.
+    /// Hides a change of a side table: it is reverted so that it can be made again, since its rows keep their numbers.
+    /// It takes no memory.
     pub fn hide(&mut self, change: &TableChange)
         requires side { IsChangeOf 1 change.now }
         requires can { CanGoBack self.old.table change.now self.old.slots }
@@ -61,7 +61,7 @@ impl RowStore {
         }
     }
 
-    /// Makes a change of a side table again that was taken back by `hide`. It takes no memory.
+    /// Makes a change of a side table again that `hide` reverted. It takes no memory.
     pub fn show(&mut self, change: &TableChange)
         requires side { IsChangeOf 1 change.now }
         requires can { CanShow self.old.table change.now self.old.slots }
@@ -74,7 +74,7 @@ impl RowStore {
         }
     }
 
-    /// Removes the rows of a change of a side table that was taken back by `hide`, and frees their numbers.
+    /// Removes the rows of a change of a side table that `hide` reverted, and frees their numbers.
     pub fn forget(&mut self, change: &TableChange)
         requires { IsChangeOf 1 change.now × CanShow self.old.table change.now self.old.slots }
         ensures { self.new ≡ with_slots self.old (forgotten change.now self.old.slots) }
@@ -86,8 +86,8 @@ impl RowStore {
         }
     }
 
-    /// Forgets the rows that taking a change back would bring back, as `release` does: the change can't be taken back
-    /// any more.
+    /// Releases the rows that reverting a change would bring back, as `release` does: the change can't be reverted any
+    /// more.
     pub fn release_replaced(&mut self, change: &TableChange)
         requires { AllOut (restores change.now) self.old.slots }
         ensures { self.new ≡ with_slots self.old (released (restores change.now) self.old.slots) }

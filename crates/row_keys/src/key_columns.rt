@@ -100,7 +100,7 @@ fn has_null_from(column: &Column, from: usize) -> bool
     false
 }
 
-/// Why a key is refused that a live row has: `NullKey` where it or a later one is null, else `DuplicateKey`.
+/// Why a live row's key is refused: `NullKey` where it or a later one is null, else `DuplicateKey`.
 fn used_key(column: &Column, index: usize) -> EditFault
     requires { index ≤ length column.now.cells }
     ensures { result ≡ used_key (has_null (drop index column.now.cells)) }
@@ -137,7 +137,7 @@ fn push_key(
     }
 }
 
-/// Adds a live row for each key of a column, in order: `NullKey` where one is null, `DuplicateKey` where one stands
+/// Adds a live row for each key of a column, in order: `NullKey` where one is null, `DuplicateKey` where one is there
 /// twice or is a live row's. On an error the numbers are as they were.
 #[tactic(auto, using(crate::proofs::KeysOfBatch::pushing))]
 pub(crate) fn push_keys(
@@ -160,7 +160,7 @@ pub(crate) fn push_keys(
     Ok(())
 }
 
-/// Adds a live row in the place of the live row of this number, which is put to those that were replaced.
+/// Adds a live row that replaces the live row of this number, which is added to those that were replaced.
 fn replace(
     numbers: &mut Numbers,
     number: usize,
@@ -178,7 +178,7 @@ fn replace(
     Ok(())
 }
 
-/// Adds a live row with the key of cell `index`, in the place of the live row below `first` that has it, if there is
+/// Adds a live row with the key of cell `index`, which replaces the live row below `first` that has it, if there is
 /// one: `NullKey` where the key or a later one is null, else `DuplicateKey` where another live row has it.
 fn put_key(
     alloc: Global,
@@ -220,8 +220,8 @@ pub(crate) fn take_back_put(numbers: &mut Numbers, first: usize, replaced: &[usi
     revive_all(numbers, replaced);
 }
 
-/// Adds a live row for each key of a column, in order, each in the place of the live row that had its key, and returns
-/// the numbers of those: `NullKey` where a key is null, `DuplicateKey` where one stands twice. On an error the numbers
+/// Adds a live row for each key of a column, in order, each replacing the live row that had its key, and returns the
+/// numbers of those: `NullKey` where a key is null, `DuplicateKey` where one is there twice. On an error the numbers
 /// are as they were. Each key is looked up once.
 #[tactic(auto, using(crate::proofs::PutKeys::putting))]
 fn put_keys(alloc: Global, column: &Column, numbers: &mut Numbers) -> Result<Vec<usize>, EditFault>
@@ -262,7 +262,7 @@ pub(crate) fn put_batch(
     put_keys(alloc, &columns[table.key], numbers)
 }
 
-/// Whether a key that stands alone is null: `NullKey`. It takes no memory.
+/// Whether the key of a column of one row is null: `NullKey`. It takes no memory.
 #[tactic(auto, using(crate::proofs::KeysOfBatch::nulls))]
 fn check_one(column: &Column) -> Result<(), EditFault>
     requires one { length column.now.cells ≡ 1 }
@@ -277,7 +277,7 @@ fn check_one(column: &Column) -> Result<(), EditFault>
     Ok(())
 }
 
-/// Whether the keys of a column can be those of rows: `NullKey` where one is null, `DuplicateKey` where one stands
+/// Whether the keys of a column can be those of rows: `NullKey` where one is null, `DuplicateKey` where one is there
 /// twice.
 pub(crate) fn check_keys(alloc: Global, column: &Column) -> Result<(), EditFault>
     requires { HoldsKeys column.now.layouts }
@@ -309,7 +309,7 @@ pub(crate) fn push_batch(
     push_keys(alloc, &columns[table.key], numbers)
 }
 
-/// The numbers of the live rows with the keys of a column, in order: `UnknownKey` where a key is no live row's.
+/// The numbers of the live rows with the keys of a column, in order: `UnknownKey` where no live row has a key.
 #[tactic(auto, using(crate::proofs::FoundRows::finding))]
 pub(crate) fn find_keys(
     alloc: Global,
@@ -344,7 +344,7 @@ fn are_ascending(numbers: &[usize]) -> bool
     true
 }
 
-/// Whether none of these numbers stands twice. It takes memory where they don't ascend.
+/// Whether none of these numbers is there twice. It takes memory where they don't ascend.
 fn are_distinct(alloc: Global, numbers: &[usize]) -> Result<bool, AllocError>
     ensures { IfOk result (λ distinct. distinct ≡ true → IsDistinct (eq_by_cmp nat_cmp) numbers.now) }
 {
@@ -356,8 +356,8 @@ fn are_distinct(alloc: Global, numbers: &[usize]) -> Result<bool, AllocError>
     Ok(are_ascending(&sorted))
 }
 
-/// The numbers of the live rows with the keys of a column, in order, where each key is given and is that of a live row.
-/// `None` where one isn't.
+/// The numbers of the live rows with the keys of a column, in order, where each key isn't null and a live row has it.
+/// `None` where that isn't so.
 #[tactic(auto, using(crate::proofs::FoundRows::finding))]
 fn find_live(
     alloc: Global,
@@ -379,8 +379,8 @@ fn find_live(
     Ok(Some(found))
 }
 
-/// The numbers of the live rows with the keys of a column, in order, where each is that of a live row and none stands
-/// twice; `None` where that isn't so. Each key is looked up once.
+/// The numbers of the live rows with the keys of a column, in order, where a live row has each and none is there twice;
+/// `None` where that isn't so. Each key is looked up once.
 pub(crate) fn find_distinct(
     alloc: Global,
     column: &Column,

@@ -1,4 +1,4 @@
-//! A table of distinct keys, each with its place.
+//! A table of distinct keys, each with its position.
 
 ghost use Rattle.std.specs.Prelude.{◌≡◌, [], IfOk, MatchOption, OnErr, Some, length, option_copied, slice_get, take};
 ghost use Rattle.row_keys.specs.KeyTable.{AreApart, Inserts, IsNew};
@@ -38,14 +38,14 @@ impl KeyTable {
         }
     }
 
-    /// No key stands at two places. It does nothing: its contract is the theorem.
+    /// No key is at two positions. It does nothing: its contract is the theorem.
     pub(crate) fn distinct_law(&self)
         ensures { AreApart self.now }
     {
         let _keys = &self.keys;
     }
 
-    /// The place of a key, if it is there.
+    /// The position of a key, if it is there.
     pub(crate) fn find(&self, key: &Key) -> Option<usize>
         ensures { MatchOption result (IsNew self.now key.now) (λ p. slice_get self.now p ≡ Some key.now) }
     {
@@ -53,14 +53,14 @@ impl KeyTable {
         self.keys.get_index_of(key)
     }
 
-    /// The key at a place.
+    /// The key at a position.
     pub(crate) fn get(&self, place: usize) -> Option<&Key>
         ensures { option_copied result ≡ slice_get self.now place }
     {
         self.keys.get_index(place)
     }
 
-    /// Adds a key at the end, unless it is there, and returns its place.
+    /// Adds a key at the end, unless it is there, and returns its position.
     pub(crate) fn insert(&mut self, key: Key) -> Result<usize, AllocError>
         ensures place { IfOk result (λ p. Inserts self.old key p self.new) }
         ensures err { OnErr result (self.new ≡ self.old) }
@@ -70,7 +70,7 @@ impl KeyTable {
         Ok(place)
     }
 
-    /// Keeps the first `len` keys. It takes no memory.
+    /// Removes all keys but the first `len`. It takes no memory.
     pub(crate) fn truncate(&mut self, len: usize)
         ensures { self.new ≡ take len self.old }
     {

@@ -27,7 +27,7 @@ pub fn batch_law()
     ensures keys { KeysAreCells }
 {}
 
-/// How each call of a store changes its live rows under their numbers, which ascend.
+/// How each call of a store changes its live rows by their numbers, which ascend.
 pub fn numbers_law()
     ensures ascend { NumbersAscend }
     ensures live { RowsAreLive }

@@ -2,8 +2,8 @@
 //!
 //! `specs/Slots.antt` says what the rows of a store are and what each call does to them, `specs/Numbered.antt` which
 //! live rows have which numbers, `specs/NumberLaws.antt` how these change, `specs/Store.antt` what contracts see,
-//! `specs/Batches.antt` which batches may come, and `specs/TableChanges.antt` and `specs/HiddenChanges.antt` how a change
-//! of a table is made, taken back, hidden and shown again. What an edit means, and why it is refused, is said in
+//! `specs/Batches.antt` which batches are accepted, and `specs/TableChanges.antt` and `specs/HiddenChanges.antt` how a
+//! change of a table is made, reverted, hidden and shown again. What an edit means, and why it is refused, is said in
 //! `view_lang`.
 #![tactic(auto)]
 

@@ -10,14 +10,14 @@ use crate::stored_chunk::StoredChunk;
 use body_writer::{Batch, RowLocation};
 use std::alloc::{AllocError, Global};
 
-/// Batches, and the place of each of some rows in them.
+/// Batches, and the locations of some rows in them.
 #[derive(Drop)]
 pub struct StoredLocations<'a> {
     pub batches: Vec<&'a Batch>,
     pub locations: Vec<RowLocation>,
 }
 
-/// How many numbers a chunk has in the mean, and no less than 1.
+/// How many numbers a chunk has on average, and no less than 1.
 fn mean_span(chunks: &[StoredChunk]) -> usize
     ensures { 0 < result }
 {
@@ -28,8 +28,8 @@ fn mean_span(chunks: &[StoredChunk]) -> usize
     numbers.div_ceil(chunks.len().max(1)).max(1)
 }
 
-/// The places of the rows of these numbers, which are kept. The chunk of a number is looked for first where it would be
-/// if all had as many numbers.
+/// The locations of the rows of these numbers, which are retained. The chunk of a number is looked for first where it
+/// would be if all had as many numbers.
 fn find_locations(
     alloc: Global,
     chunks: &[StoredChunk],
@@ -62,7 +62,7 @@ fn batches_of<'a>(alloc: Global, chunks: &'a [StoredChunk]) -> Result<Vec<&'a Ba
     Ok(batches)
 }
 
-/// Where the rows of these numbers lie, which are kept: each by itself.
+/// Where the rows of these numbers lie, which are retained: each by itself.
 pub(crate) fn locate_rows<'a>(
     alloc: Global,
     chunks: &'a [StoredChunk],
@@ -80,7 +80,7 @@ pub(crate) fn locate_rows<'a>(
     Ok(StoredLocations { batches, locations })
 }
 
-/// The place of the row of this number, which is kept; one in no chunk where there is no number.
+/// The location of the row of this number, which is retained; one in no chunk where there is no number.
 fn place_if(chunks: &[StoredChunk], span: usize, number: Option<usize>) -> RowLocation
     requires chunks { (len : ℕ) × AreChunks 0 chunks.now len }
     requires span { 0 < span }
@@ -100,7 +100,7 @@ fn place_if(chunks: &[StoredChunk], span: usize, number: Option<usize>) -> RowLo
     }
 }
 
-/// The places of the rows of these numbers, which are kept; where there is no number, one in no chunk.
+/// The locations of the rows of these numbers, which are retained; where there is no number, one in no chunk.
 fn find_locations_if(
     alloc: Global,
     chunks: &[StoredChunk],
@@ -118,8 +118,8 @@ fn find_locations_if(
     Ok(locations)
 }
 
-/// Where the rows of these numbers lie, which are kept: each by itself. Where there is no number, the place is in no
-/// batch.
+/// Where the rows of these numbers lie, which are retained: each by itself. Where there is no number, the location is
+/// in no batch.
 pub(crate) fn locate_rows_if<'a>(
     alloc: Global,
     chunks: &'a [StoredChunk],

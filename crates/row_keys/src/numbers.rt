@@ -53,8 +53,8 @@ use std::alloc::{AllocError, Global};
 use std::marker::Model;
 use values::Key;
 
-/// What is kept of a row: the place of its key in the table of keys, whether it is live, and whether its key came into
-/// that table with it.
+/// What is stored of a row: the position of its key in the table of keys, whether it is live, and whether its key was
+/// added to that table with it.
 #[derive(Clone, Copy, Debug)]
 struct Entry {
     key: usize,
@@ -62,28 +62,28 @@ struct Entry {
     is_new: bool,
 }
 
-/// The number of a row, and what is kept of it.
+/// The number of a row, and what is stored of it.
 #[derive(Clone, Copy, Debug)]
 struct RetainedEntry {
     number: usize,
     entry: Entry,
 }
 
-/// What stands for a row that is gone: the place of the null key.
+/// The entry of a released row: the position of the null key.
 const GONE: Entry = Entry {
     key: 0,
     is_live: false,
     is_new: false,
 };
 
-/// The keys are written anew no sooner than this many of them are of no row.
+/// The table of keys is rebuilt no sooner than this many keys belong to no row.
 const FEW_KEYS: usize = 32;
 
 /// How many rows there can be at most.
 const MOST_ROWS: usize = (1 << 63) - 1;
 
 /// Row numbers, each with its row's key and whether the row is live. Keys are stored once, also where retracted rows
-/// had the same. Place 0 is that of the null key, which rows that are gone have.
+/// had the same. Position 0 is that of the null key, which released rows have.
 ///
 /// Contracts see a list of `Numbered`.
 #[derive(Drop)]
@@ -91,11 +91,11 @@ pub(crate) struct Numbers {
     keys: KeyTable,
     // For each key the number of the row that was added last with it.
     holders: Vec<usize>,
-    // By number. Of a row that isn't among them nothing is kept: it is gone.
+    // By number. A row that isn't among them is released.
     kept: Vec<RetainedEntry>,
     len: usize,
     live: usize,
-    // How many of those that are kept are gone.
+    // How many of the retained entries are those of released rows.
     gone: usize,
 }
 
@@ -127,7 +127,7 @@ fn count_below(kept: &[RetainedEntry], number: usize) -> usize
     )
 }
 
-/// Whether what is kept at a place is of this number.
+/// Whether the entry at a position is that of this number.
 fn is_at(kept: &[RetainedEntry], place: usize, number: usize) -> bool
     ensures yes { result ≡ true → IsRetainedAt kept.now number place }
     ensures no { result ≡ false → IsRetainedAt kept.now number place → ⊥ }
@@ -138,12 +138,12 @@ fn is_at(kept: &[RetainedEntry], place: usize, number: usize) -> bool
     }
 }
 
-/// The place of the entry of this number, if it is kept.
+/// The position of the entry of this number, if it is retained.
 fn place_of(kept: &[RetainedEntry], number: usize) -> Option<usize>
     requires { (len : ℕ) × AreInOrder 0 kept.now len }
     ensures { MatchOption result (entry_in kept.now number ≡ gone_entry) (IsRetainedAt kept.now number) }
 {
-    // Where none is gone, its place is the number itself.
+    // Where no row before it was released, its position is the number itself.
     if is_at(kept, number, number) {
         return Some(number);
     }
@@ -163,7 +163,7 @@ fn next_retained(kept: &[RetainedEntry], number: usize, len: usize) -> usize
     ensures within { result ≤ len }
     ensures gone { (k : ℕ) → number ≤ k → k < result → entry_in kept.now k ≡ gone_entry }
 {
-    // Where none is gone, its place is the number itself.
+    // Where no row before it was released, its position is the number itself.
     if is_at(kept, number, number) {
         return number;
     }
@@ -184,7 +184,7 @@ fn entry_at(kept: &[RetainedEntry], number: usize) -> Entry
     }
 }
 
-/// The number of the live row with the key at this place, if any.
+/// The number of the live row with the key at this position, if any.
 fn holder(holders: &[usize], kept: &[RetainedEntry], place: usize) -> Option<usize>
     requires { (len : ℕ) × AreInOrder 0 kept.now len }
     ensures { (len : ℕ) → AreInOrder 0 kept.now len
@@ -200,7 +200,7 @@ fn holder(holders: &[usize], kept: &[RetainedEntry], place: usize) -> Option<usi
     }
 }
 
-/// Makes a row the holder of the key at this place, which has a holder or is the next one.
+/// Makes a row the holder of the key at this position, which has a holder or is the next one.
 #[tactic(auto, using(crate::proofs::Indexes::holding))]
 fn hold(holders: &mut Vec<usize>, place: usize, number: usize)
     requires within { place ≤ length holders.old.items }
@@ -214,7 +214,7 @@ fn hold(holders: &mut Vec<usize>, place: usize, number: usize)
     }
 }
 
-/// Puts another entry in the place of that of a number which is kept.
+/// Replaces the entry at a position, which is retained.
 fn set_entry(kept: &mut Vec<RetainedEntry>, place: usize, entry: Entry)
     requires { place < length kept.old.items }
     ensures { (number : ℕ) → IsRetainedAt kept.old.items number place
@@ -241,7 +241,7 @@ fn set_live(kept: &mut Vec<RetainedEntry>, number: usize, is_live: bool)
     }
 }
 
-/// Forgets what is kept of the row of this number. It returns whether anything was.
+/// Marks the row of this number released. It returns whether its entry is retained.
 fn forget(kept: &mut Vec<RetainedEntry>, number: usize) -> bool
     requires order { (len : ℕ) × AreInOrder 0 kept.old.items len }
     ensures order { (len : ℕ) → AreInOrder 0 kept.old.items len → AreInOrder 0 kept.new.items len }
@@ -267,7 +267,7 @@ fn ends_at(kept: &[RetainedEntry], number: usize) -> bool
     }
 }
 
-/// Removes the entry of number `last`, above which there is none, if it is kept, and returns it.
+/// Removes the entry of number `last`, above which there is none, if it is retained, and returns it.
 fn pop_entry(kept: &mut Vec<RetainedEntry>, last: usize) -> Entry
     requires { AreInOrder 0 kept.old.items (last + 1) }
     ensures order { AreInOrder 0 kept.new.items last }
@@ -282,7 +282,7 @@ fn pop_entry(kept: &mut Vec<RetainedEntry>, last: usize) -> Entry
     one.entry
 }
 
-/// Gives place 0 to the null key, unless it has it.
+/// Adds the null key at position 0, unless it is there.
 #[tactic(auto, using(crate::proofs::KeyTables::key_tables))]
 fn place_null(keys: &mut KeyTable, holders: &mut Vec<usize>) -> Result<(), AllocError>
     requires { length holders.old.items ≡ length keys.old }
@@ -309,7 +309,7 @@ fn one_more(len: usize) -> Result<usize, AllocError>
     Ok(len + 1)
 }
 
-/// Removes the entries of rows that are gone.
+/// Removes the entries of released rows.
 fn sweep(kept: &mut Vec<RetainedEntry>)
     ensures { kept.new.items ≡ filter is_kept kept.old.items }
 {
@@ -320,7 +320,7 @@ fn sweep(kept: &mut Vec<RetainedEntry>)
     );
 }
 
-/// What is kept of a row.
+/// What is stored of a row.
 fn row_of(alloc: Global, keys: &KeyTable, one: &RetainedEntry) -> Result<RowParts, AllocError>
     requires { one.now.entry.key < length keys.now }
     ensures { IfOk result (λ row. row ≡ part_of keys.now one.now) }
@@ -332,7 +332,7 @@ fn row_of(alloc: Global, keys: &KeyTable, one: &RetainedEntry) -> Result<RowPart
     })
 }
 
-/// What is kept of all rows.
+/// What is stored of all retained rows.
 fn rows_of(
     alloc: Global,
     keys: &KeyTable,
@@ -354,7 +354,7 @@ fn count(is_live: bool) -> usize
     if is_live { 1 } else { 0 }
 }
 
-/// How many of `keys` keys are left when the last row is removed: its own goes if it came with it.
+/// How many of `keys` keys remain when the last row is removed: its own is removed if it was added with it.
 fn keys_left(entry: Entry, keys: usize) -> usize
     ensures { result ≡ (if entry.is_new then entry.key else keys) }
 {
@@ -384,8 +384,8 @@ impl Numbers {
         self.len
     }
 
-    /// The least number from this one on of which something is kept; the number of rows where there is none. Those
-    /// before it aren't live.
+    /// The least number from this one on that has an entry; the number of rows where there is none. Those before it
+    /// aren't live.
     pub(crate) fn next_retained(&self, number: usize) -> usize
         requires { number ≤ length self.now }
         ensures from { number ≤ result }
@@ -405,7 +405,7 @@ impl Numbers {
         entry_at(&self.kept, number).is_live
     }
 
-    /// The key of a row: null where the row is gone.
+    /// The key of a row: null where the row is released.
     pub(crate) fn key(&self, number: usize) -> &Key
         requires { number < length self.now }
         ensures { result.now ≡ (get_or self.now number no_row).key }
@@ -414,7 +414,7 @@ impl Numbers {
         self.keys.get(entry.key).unwrap()
     }
 
-    /// What is kept of the rows, by their numbers.
+    /// What is stored of the rows, by their numbers.
     pub(crate) fn retained_rows(&self, alloc: Global) -> Result<Vec<RowParts>, AllocError>
         ensures order { IfOk result (λ rows. AreNumbered 0 rows.items (length self.now)) }
         ensures rows { IfOk result (λ rows. numbers_in rows.items (length self.now) ≡ self.now) }
@@ -424,7 +424,7 @@ impl Numbers {
         Ok(rows)
     }
 
-    /// Whether most keys are of no row that is kept.
+    /// Whether most keys belong to no retained row.
     pub(crate) fn has_spare_keys(&self) -> bool {
         let left = self.kept.len().saturating_sub(self.gone);
         self.holders.len() / 2 > left.saturating_add(FEW_KEYS)
@@ -513,7 +513,7 @@ impl Numbers {
         Ok(())
     }
 
-    /// Adds rows that are gone, up to this number.
+    /// Adds released rows, up to this number.
     pub(crate) fn skip_to(&mut self, number: usize) -> Result<(), AllocError>
         requires from { length self.old ≤ number }
         requires bound { number < 2 ^ 63 }
@@ -541,7 +541,7 @@ impl Numbers {
         self.live -= count(entry.is_live);
     }
 
-    /// Keeps the first `len` rows. It takes no memory.
+    /// Removes all rows but the first `len`. It takes no memory.
     pub(crate) fn truncate(&mut self, len: usize)
         ensures { self.new ≡ take len self.old }
     {
@@ -559,7 +559,7 @@ impl Numbers {
         self.live -= 1;
     }
 
-    /// Forgets the key of a row that isn't live: the row is gone. It takes no memory.
+    /// Drops the key of a row that isn't live: the row is then released. It takes no memory.
     pub(crate) fn release(&mut self, number: usize)
         requires there { number < length self.old }
         requires out { (get_or self.old number no_row).live ≡ false }
@@ -570,7 +570,7 @@ impl Numbers {
         }
     }
 
-    /// Forgets that the rows which are gone were kept, where they are many. It takes no memory.
+    /// Removes the entries of released rows, where they are many. It takes no memory.
     pub(crate) fn tidy(&mut self)
         ensures { self.new ≡ self.old }
     {
@@ -580,7 +580,7 @@ impl Numbers {
         }
     }
 
-    /// Makes a retracted row live, which isn't gone, and whose key no live row has. It takes no memory.
+    /// Makes a retracted row live, which isn't released, and whose key no live row has. It takes no memory.
     pub(crate) fn revive(&mut self, number: usize)
         requires { CanTurnOn self.old number }
         ensures { self.new ≡ turned true self.old number }

@@ -11,21 +11,21 @@ use std::alloc::{AllocError, Global};
 use values::Key;
 use view_lang::Table;
 
-/// All that a `RowStore` keeps.
+/// All that a `RowStore` stores.
 #[derive(Drop)]
 pub struct StoreParts {
     pub table: Table,
     /// Where the rows lie, by their numbers.
     pub chunks: Vec<StoredChunk>,
-    /// What is kept of the rows besides their cells, by their numbers. Rows that are gone need not be among them.
+    /// What is stored of the rows besides their cells, by their numbers. Released rows need not be among them.
     pub rows: Vec<RowParts>,
-    /// How many numbers were given.
+    /// How many rows were appended: the next number.
     pub appended: usize,
     /// How many rows were opened.
     pub visits: u128,
 }
 
-/// What is kept of a row besides its cells: its number, its key, and whether it is live.
+/// What is stored of a row besides its cells: its number, its key, and whether it is live.
 #[derive(Drop)]
 pub struct RowParts {
     pub number: usize,
@@ -50,7 +50,7 @@ fn number_rows(alloc: Global, rows: &[RowParts], len: usize) -> Result<Numbers, 
     Ok(numbers)
 }
 
-/// Makes those rows live that are so in the parts.
+/// Makes those rows live that are live in the parts.
 fn revive_rows(numbers: &mut Numbers, rows: &[RowParts], len: usize)
     requires order { AreNumbered 0 rows.now len }
     requires retracted { numbers.old ≡ retracted_in rows.now len }
@@ -65,7 +65,7 @@ fn revive_rows(numbers: &mut Numbers, rows: &[RowParts], len: usize)
     }
 }
 
-/// Numbers the rows below `len`, of which these are kept.
+/// Numbers the rows below `len`, of which these are retained.
 pub(crate) fn make_numbers(
     alloc: Global,
     rows: &[RowParts],
@@ -82,7 +82,7 @@ pub(crate) fn make_numbers(
     Ok(numbers)
 }
 
-/// The same numbers, without the keys that no row has which is kept.
+/// The same numbers, without the keys that no retained row has.
 pub(crate) fn renumbered(alloc: Global, numbers: &Numbers) -> Result<Numbers, AllocError>
     requires { AreGiven numbers.now }
     ensures { IfOk result (λ made. made ≡ numbers.now) }

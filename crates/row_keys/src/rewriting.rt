@@ -1,4 +1,4 @@
-//! Writes chunks of rows anew: without the rows that are gone, and several of them as one.
+//! Rewrites chunks of rows: without the released rows, and several of them as one.
 
 ghost use Rattle.std.specs.Prelude.{
   ◌≡◌,
@@ -57,10 +57,10 @@ use std::alloc::{AllocError, Global};
 use values::LayoutTree;
 use values::limits::{MAX_BATCH_ROWS, MAX_BATCH_WEIGHT};
 
-/// The bytes that a chunk takes besides its rows, about.
+/// About how many bytes a chunk takes besides its rows.
 const CHUNK_WEIGHT: u64 = 512;
 
-/// The index of the first row from `at` on that isn't gone; the number of rows where there is none.
+/// The index of the first row from `at` on that isn't released; the number of rows where there is none.
 fn next_left(gone: &[bool], at: usize) -> usize
     requires { at ≤ length gone.now }
     ensures from { at ≤ result }
@@ -76,7 +76,7 @@ fn next_left(gone: &[bool], at: usize) -> usize
     gone.len()
 }
 
-/// The index of the first row from `at` on that is gone; the number of rows where there is none.
+/// The index of the first row from `at` on that is released; the number of rows where there is none.
 fn next_gone(gone: &[bool], at: usize) -> usize
     requires { at ≤ length gone.now }
     ensures from { at ≤ result }
@@ -92,7 +92,7 @@ fn next_gone(gone: &[bool], at: usize) -> usize
     gone.len()
 }
 
-/// Adds the rows of a batch from row `from` on that aren't gone, as many as follow one another at once.
+/// Adds the rows of a batch from row `from` on that aren't released, in ranges of consecutive rows.
 fn push_ranges<'a>(
     batch: &'a Batch,
     gone: &[bool],
@@ -132,7 +132,7 @@ fn number_at(chunk: &StoredChunk, index: usize) -> usize
     chunk.numbers[index]
 }
 
-/// Adds the number of row `index` of a chunk, unless it is gone.
+/// Adds the number of row `index` of a chunk, unless it is released.
 fn push_number(
     chunk: &StoredChunk,
     index: usize,
@@ -151,7 +151,7 @@ fn push_number(
     Ok(())
 }
 
-/// Adds the numbers of the rows of a chunk from row `from` on that aren't gone.
+/// Adds the numbers of the rows of a chunk from row `from` on that aren't released.
 fn push_numbers(
     chunk: &StoredChunk,
     from: usize,
@@ -169,14 +169,14 @@ fn push_numbers(
     Ok(())
 }
 
-/// The rows of some chunks that aren't gone: where they lie, and their numbers.
+/// The rows of some chunks that aren't released: where they lie, and their numbers.
 #[derive(Drop)]
 struct RowsLeft<'a> {
     ranges: Vec<RowRange<'a>>,
     numbers: Vec<usize>,
 }
 
-/// The rows of these chunks that aren't gone, in order.
+/// The rows of these chunks that aren't released, in order.
 fn gather(alloc: Global, part: &[StoredChunk]) -> Result<RowsLeft<'_>, AllocError>
     requires { IsPart part.now }
     ensures rows { IfOk result (λ left. ranges_rows left.ranges.items ≡ all_rows part.now) }
@@ -192,14 +192,14 @@ fn gather(alloc: Global, part: &[StoredChunk]) -> Result<RowsLeft<'_>, AllocErro
     Ok(RowsLeft { ranges, numbers })
 }
 
-/// Whether a chunk has so many columns.
+/// Whether a chunk has this many columns.
 fn is_wide(chunk: &StoredChunk, columns: usize) -> bool
     ensures { result ≡ true → IsWide columns chunk.now }
 {
     chunk.batch.columns.len() == columns
 }
 
-/// Whether each of these chunks has so many columns.
+/// Whether each of these chunks has this many columns.
 fn are_wide(part: &[StoredChunk], columns: usize) -> bool
     ensures { result ≡ true → All (IsWide columns) part.now }
 {
@@ -246,7 +246,7 @@ fn weigh(alloc: Global, layouts: &[LayoutTree], ranges: &[RowRange]) -> Result<u
     Ok(sum)
 }
 
-/// The bytes in which the columns of a batch lie, but for those of dictionaries.
+/// The bytes in which the columns of a batch lie, without those of dictionaries.
 fn bytes_of(batch: &Batch) -> u64 {
     match batch.columns.first() {
         Some(column) => column.parts().body.len() as u64,
@@ -254,8 +254,8 @@ fn bytes_of(batch: &Batch) -> u64 {
     }
 }
 
-/// How much may be written for some chunks, so that it takes no more memory than they do. Each cell of a dictionary is
-/// written as a value of its own, which can be more.
+/// The most that may be written for some chunks, so that it takes no more memory than they do. Each cell of a
+/// dictionary is written as a value of its own, which can be more.
 fn most_weight(part: &[StoredChunk]) -> u64
     ensures { result ≤ max_batch_weight }
 {
@@ -267,7 +267,7 @@ fn most_weight(part: &[StoredChunk]) -> u64
     sum.min(MAX_BATCH_WEIGHT)
 }
 
-/// How many numbers some chunks span, which follow one another.
+/// How many numbers some consecutive chunks span.
 fn span_of(part: &[StoredChunk]) -> usize
     requires part { IsPart part.now }
     requires some { 0 < length part.now }
@@ -279,7 +279,7 @@ fn span_of(part: &[StoredChunk]) -> usize
     last.first + last.span - head.first
 }
 
-/// Whether these numbers follow one another from the first on.
+/// Whether these numbers are consecutive, with `first` as the first.
 fn are_in_turn(numbers: &[usize], first: usize) -> bool
     ensures { result ≡ true → numbers.now ≡ in_turn first (length numbers.now) }
 {
@@ -291,7 +291,7 @@ fn are_in_turn(numbers: &[usize], first: usize) -> bool
     true
 }
 
-/// These numbers, or none where they follow one another from the first on.
+/// These numbers, or none where they are consecutive, with `first` as the first.
 fn shorten_numbers(alloc: Global, numbers: Vec<usize>, first: usize) -> Vec<usize>
     ensures { numbers_by result.items first (length numbers.items) ≡ numbers.items }
 {
@@ -327,7 +327,8 @@ fn make_chunk(
     })
 }
 
-/// How much may be written for the last `rows` rows of a chunk, so that all of it takes no more memory than the chunk.
+/// The most that may be written for the last `rows` rows of a chunk, so that all of it takes no more memory than the
+/// chunk.
 fn most_for(batch: &Batch, rows: usize) -> u64
     ensures { result ≤ max_batch_weight }
 {
@@ -387,8 +388,8 @@ fn write_left(
     Ok(Some(chunk))
 }
 
-/// One chunk with the rows of these that aren't gone; `None` where they are too many, or would take more memory than
-/// these chunks do.
+/// One chunk with the rows of these that aren't released; `None` where they are too many, or would take more memory
+/// than these chunks do.
 pub(crate) fn merge(
     alloc: Global,
     layouts: &[LayoutTree],
@@ -417,7 +418,7 @@ pub(crate) fn merge(
     )
 }
 
-/// The last rows of a chunk, from row `from` on, that aren't gone.
+/// The last rows of a chunk, from row `from` on, that aren't released.
 fn gather_tail(alloc: Global, chunk: &StoredChunk, from: usize) -> Result<RowsLeft<'_>, AllocError>
     requires within { from ≤ length chunk.now.gone }
     requires long { IsLong chunk.now }
@@ -433,7 +434,7 @@ fn gather_tail(alloc: Global, chunk: &StoredChunk, from: usize) -> Result<RowsLe
     Ok(RowsLeft { ranges, numbers })
 }
 
-/// A chunk with the last rows of this one, from row `from` on, that aren't gone; `None` where they are too many, or
+/// A chunk with the last rows of this one, from row `from` on, that aren't released; `None` where they are too many, or
 /// would take more memory than their share of this one.
 pub(crate) fn write_tail(
     alloc: Global,

@@ -1,4 +1,4 @@
-//! Where rows lie in chunks: those that lie one after the other, at once.
+//! Where rows lie in chunks, in runs of consecutive rows.
 
 ghost use Rattle.std.specs.Prelude.{◌≡◌, ℕ, ◌^◌, ◌<◌, ◌≤◌, ◌++◌, All, IfOk, MatchOption, OnOk, [], length, map};
 ghost use Rattle.body_writer.specs.RowRanges.{IsRange, ranges_rows};
@@ -10,7 +10,7 @@ use crate::stored_rows::{Location, chunk_of, index_in};
 use body_writer::RowRange;
 use std::alloc::{AllocError, Global};
 
-/// Rows that lie one after the other: the place of their chunk, and from which row up to, and without, which one.
+/// Consecutive rows of a chunk: the chunk's index, the first row, and the one after the last.
 #[derive(Clone, Copy)]
 struct Run {
     chunk: usize,
@@ -18,7 +18,7 @@ struct Run {
     to: usize,
 }
 
-/// The place of the chunk that has this number, if there is one. That at place `near` is looked at first.
+/// The index of the chunk that has this number, if there is one. The chunk at index `near` is tried first.
 fn chunk_near(chunks: &[StoredChunk], near: usize, number: usize) -> Option<usize>
     requires { (len : ℕ) × AreChunks 0 chunks.now len }
     ensures { MatchOption result (row_in chunks.now number ≡ []) (LiesIn chunks.now number) }
@@ -32,7 +32,7 @@ fn chunk_near(chunks: &[StoredChunk], near: usize, number: usize) -> Option<usiz
     chunk_of(chunks, number)
 }
 
-/// Where the row of this number lies, if it is kept.
+/// Where the row of this number lies, if it is retained.
 pub(crate) fn locate_near(chunks: &[StoredChunk], near: usize, number: usize) -> Option<Location>
     requires { (len : ℕ) × AreChunks 0 chunks.now len }
     ensures { MatchOption result (row_in chunks.now number ≡ []) (λ at. LiesAt chunks.now number at.chunk at.index) }
@@ -65,7 +65,7 @@ fn push_run<'a>(
     Ok(())
 }
 
-/// Where the rows of these numbers lie, which are kept: as many as lie one after the other at once.
+/// Where the rows of these numbers lie, which are retained, in ranges of consecutive rows.
 pub(crate) fn find_ranges<'a>(
     alloc: Global,
     chunks: &'a [StoredChunk],

@@ -96,8 +96,8 @@ use std::marker::Model;
 use values::{CellView, Key, KeyBuffer, Row, Value};
 use view_lang::{RowView, Table};
 
-/// The rows of a table, by number. A row's number is its place in the order in which rows came. Rows are live or
-/// retracted; retracted rows keep their numbers, and can be put back.
+/// The rows of a table, by number. A row's number is its position in the order in which rows were added. Rows are live
+/// or retracted; retracted rows keep their numbers, and can be restored.
 ///
 /// Contracts see a `Store` of `specs/Store.antt`.
 #[derive(Drop)]
@@ -205,7 +205,7 @@ impl RowStore {
         self.numbers.distinct_law();
     }
 
-    /// What gives the store its memory.
+    /// The allocator of the store.
     pub(crate) fn alloc(&self) -> Global {
         self.alloc
     }
@@ -267,8 +267,8 @@ impl RowStore {
     }
 
     /// Adds the `rows` rows of a batch after all rows. The error is the first cause for which they don't fit: a null
-    /// key, a key that stands twice or is live, too many rows, a cell or a row that is too heavy; or it is `Memory`. On
-    /// an error nothing has changed.
+    /// key, a key that is there twice or is live, too many rows, a cell or a row that is too heavy; or it is `Memory`.
+    /// On an error nothing has changed.
     pub fn append(&mut self, columns: Vec<Column>, rows: usize) -> Result<(), EditFault>
         requires { IsBatch self.old.table rows columns.items }
         ensures contents { OnOk result
@@ -290,7 +290,7 @@ impl RowStore {
         Ok(())
     }
 
-    /// Removes the last `count` rows, as an append is undone, and frees their numbers. It takes no memory.
+    /// Removes the last `count` rows, as undoing an append does, and frees their numbers. It takes no memory.
     pub fn revert(&mut self, count: usize)
         requires { CanRevert count self.old.slots }
         ensures { self.new ≡ with_slots self.old (reverted count self.old.slots) }
@@ -300,7 +300,7 @@ impl RowStore {
         self.numbers.truncate(left);
     }
 
-    /// Forgets the row of this number, which isn't live.
+    /// Releases the row of this number, which isn't live.
     fn release_row(&mut self, number: usize)
         requires { IsOut self.old.slots number }
         ensures { self.new ≡ with_slots self.old (emptied self.old.slots number) }
@@ -309,9 +309,9 @@ impl RowStore {
         self.numbers.release(number);
     }
 
-    /// Forgets the rows of these numbers, which aren't live: they are gone, and can't be put back. A batch goes with
-    /// the last of its rows, what is left of one is written anew where few of its rows are, and keys that no row has
-    /// are dropped once they are many. Where memory for that is refused, they stay.
+    /// Releases the rows of these numbers, which aren't live: they can't be restored. A batch is freed with the last of
+    /// its rows, its remaining rows are rewritten where they are few, and keys that no row has are dropped once they
+    /// are many. Where memory for that is refused, they stay.
     pub fn release(&mut self, numbers: &[usize])
         requires { AllOut numbers.now self.old.slots }
         ensures { self.new ≡ with_slots self.old (released numbers.now self.old.slots) }
@@ -323,8 +323,8 @@ impl RowStore {
         self.tidy();
     }
 
-    /// Drops the keys of rows that went, where they are more than those of the rows that are kept. Where memory for the
-    /// other keys is refused, they stay.
+    /// Drops the keys of released rows, where they are more than those of the retained ones. Where memory for
+    /// rebuilding the table of keys is refused, they stay.
     fn tidy_keys(&mut self)
         ensures { self.new ≡ self.old }
     {
@@ -348,7 +348,7 @@ impl RowStore {
         }
     }
 
-    /// Writes the chunk of this number anew where few of its rows are left. Where memory for it is refused, it stays.
+    /// Rewrites the chunk of this number where few of its rows remain. Where memory for it is refused, it stays.
     fn renew(&mut self, number: usize)
         ensures { self.new ≡ self.old }
     {
@@ -360,7 +360,7 @@ impl RowStore {
         }
     }
 
-    /// Writes the chunks of these numbers anew of which few rows are left.
+    /// Rewrites the chunks of these numbers of which few rows remain.
     fn renew_all(&mut self, numbers: &[usize])
         ensures { self.new ≡ self.old }
     {
@@ -369,7 +369,7 @@ impl RowStore {
         }
     }
 
-    /// Forgets what is kept of batches that went, and of the keys of their rows.
+    /// Drops the entries of freed batches and of released rows, and the keys that no row has.
     fn tidy(&mut self)
         ensures { self.new ≡ self.old }
     {
@@ -378,8 +378,8 @@ impl RowStore {
         self.tidy_keys();
     }
 
-    /// The numbers of the live rows with these keys as `find_all` answers them: each key is compared with the others, and
-    /// then looked up.
+    /// The numbers of the live rows with these keys as `find_all` returns them: each key is compared with the others,
+    /// and then looked up.
     fn find_each(&self, keys: &Column) -> Result<Vec<usize>, EditFault>
         requires { AreKeys self.now.table keys.now }
         ensures numbers { IfOk result (λ ns. CanRetract ns.items self.now.slots) }
@@ -397,7 +397,7 @@ impl RowStore {
     }
 
     /// The numbers of the live rows with these keys, in order. The error is the first cause for which the keys can't be
-    /// retracted: a null key, a key that stands twice, a key that no live row has; or it is `Memory`.
+    /// retracted: a null key, a key that is there twice, a key that no live row has; or it is `Memory`.
     pub fn find_all(&self, keys: &Column) -> Result<Vec<usize>, EditFault>
         requires { AreKeys self.now.table keys.now }
         ensures numbers { IfOk result (λ ns. CanRetract ns.items self.now.slots) }
@@ -450,8 +450,8 @@ impl RowStore {
 
     /// Retracts the live rows with the keys of a batch, adds the batch's `rows` rows after all rows, and returns the
     /// numbers of the retracted ones. The error is the first cause for which the batch doesn't fit: a null key, a key
-    /// that stands twice, too many rows, a cell or a row that is too heavy; or it is `Memory`. On an error nothing has
-    /// changed.
+    /// that is there twice, too many rows, a cell or a row that is too heavy; or it is `Memory`. On an error nothing
+    /// has changed.
     pub fn put(&mut self, columns: Vec<Column>, rows: usize) -> Result<Vec<usize>, EditFault>
         requires { IsBatch self.old.table rows columns.items }
         ensures contents { OnOk result
@@ -476,7 +476,7 @@ impl RowStore {
         Ok(replaced)
     }
 
-    /// Undoes a put: removes the last `rows` rows, and puts back those that they replaced. It takes no memory.
+    /// Undoes a put: removes the last `rows` rows, and restores those that they replaced. It takes no memory.
     pub fn undo_put(&mut self, rows: usize, replaced: &[usize])
         requires { CanUndoPut self.old.table rows replaced.now self.old.slots }
         ensures { self.new ≡ with_slots self.old (put_undone rows replaced.now self.old.slots) }
@@ -485,7 +485,7 @@ impl RowStore {
         self.put_back(replaced);
     }
 
-    /// Hides a put: retracts the last `rows` rows, and puts back those that they replaced. The rows keep their numbers,
+    /// Hides a put: retracts the last `rows` rows, and restores those that they replaced. The rows keep their numbers,
     /// so that `show_put` can show them again. It takes no memory.
     pub fn hide_put(&mut self, rows: usize, replaced: &[usize])
         requires { CanUndoPut self.old.table rows replaced.now self.old.slots }
@@ -500,8 +500,8 @@ impl RowStore {
         self.put_back(replaced);
     }
 
-    /// Shows a put again that was hidden: puts back the last `rows` rows, and retracts those that they replace. It
-    /// takes no memory.
+    /// Shows a put again that was hidden: restores the last `rows` rows, and retracts those that they replace. It takes
+    /// no memory.
     pub fn show_put(&mut self, rows: usize, replaced: &[usize])
         requires { CanShowPut self.old.table rows replaced.now self.old.slots }
         ensures { self.new ≡ with_slots self.old (put_shown rows replaced.now self.old.slots) }
@@ -546,7 +546,7 @@ impl RowStore {
         retract_all(&mut self.numbers, numbers);
     }
 
-    /// Makes retracted rows live again, each in its old place among the rows. It takes no memory.
+    /// Makes retracted rows live again, each at its old position among the rows. It takes no memory.
     pub fn put_back(&mut self, numbers: &[usize])
         requires { CanPutBack self.old.table numbers.now self.old.slots }
         ensures slots { self.new ≡ with_slots self.old (put_back numbers.now self.old.slots) }
@@ -556,7 +556,7 @@ impl RowStore {
         revive_all(&mut self.numbers, numbers);
     }
 
-    /// The row of this number where it lies, live or retracted. One that is gone has no cells.
+    /// The row of this number where it lies, live or retracted. A released row has no cells.
     fn row_at(&self, number: usize) -> StoredRow<'_>
         requires { number < length self.now.slots }
         ensures row { result ≡ row_of self.now.slots number }
@@ -575,7 +575,7 @@ impl RowStore {
         Visit::new(number)
     }
 
-    /// The row that is visited where it lies, live or retracted. One that is gone has no cells.
+    /// The row that is visited where it lies, live or retracted. A released row has no cells.
     pub fn row(&self, visit: Visit) -> StoredRow<'_>
         requires { visit < length self.now.slots }
         ensures row { result ≡ row_of self.now.slots visit }
@@ -593,8 +593,8 @@ impl RowStore {
         Visits::new(numbers)
     }
 
-    /// Where the visited rows lie, which are live: as many as lie one after the other at once. Each lies in as many
-    /// columns as the table has.
+    /// Where the visited rows lie, which are live, in ranges of consecutive rows. Each lies in as many columns as the
+    /// table has.
     pub fn ranges(&self, visits: Visits) -> Result<Vec<RowRange<'_>>, AllocError>
         requires { All (IsLiveAt self.now.slots) visits }
         ensures rows { IfOk result (λ ranges. ranges_rows ranges.items ≡ map (row_of self.now.slots) visits) }
@@ -616,8 +616,8 @@ impl RowStore {
         self.rows.locations(self.alloc, visits.numbers())
     }
 
-    /// Where the rows of a side table of these numbers lie, which are live: each by itself. Where there is no number, the
-    /// place is in no batch. Visits count the rows of the main table that are opened, and no others.
+    /// Where the rows of a side table of these numbers lie, which are live: each by itself. Where there is no number,
+    /// the location is in no batch. Visits count the rows of the main table that are opened, and no others.
     pub fn locations_if(&self, numbers: &[Option<usize>]) -> Result<StoredLocations<'_>, AllocError>
         requires side { IsSideTable self.now.table }
         requires live { All (λ o. IfSome o (IsLiveAt self.now.slots)) numbers.now }
@@ -630,7 +630,7 @@ impl RowStore {
         self.rows.locations_if(self.alloc, numbers)
     }
 
-    /// A copy of the row of this number, live or retracted; one that is gone has no cells. It is counted as a visit.
+    /// A copy of the row of this number, live or retracted; a released one has no cells. It is counted as a visit.
     pub fn open_row(&mut self, number: usize) -> Result<Row, AllocError>
         requires { number < length self.old.slots }
         ensures row { IfOk result (λ row. row.items ≡ row_of self.old.slots number) }
@@ -704,7 +704,7 @@ impl RowStore {
         }
     }
 
-    /// Copies of the keys of a side table's rows of these numbers, live or retracted; null for those that are gone.
+    /// Copies of the keys of a side table's rows of these numbers, live or retracted; null for released ones.
     pub fn keys_of(&self, numbers: &[usize]) -> Result<Vec<Key>, AllocError>
         requires side { IsSideTable self.now.table }
         requires there { All (λ n. n < length self.now.slots) numbers.now }
@@ -719,8 +719,7 @@ impl RowStore {
         Ok(keys)
     }
 
-    /// Copies of the key cells of a side table's rows of these numbers, live or retracted; null for those that are
-    /// gone.
+    /// Copies of the key cells of a side table's rows of these numbers, live or retracted; null for released ones.
     pub fn key_cells(&self, numbers: &[usize]) -> Result<Row, AllocError>
         requires side { IsSideTable self.now.table }
         requires there { All (λ n. n < length self.now.slots) numbers.now }
@@ -733,7 +732,7 @@ impl RowStore {
         Ok(cells)
     }
 
-    /// A copy of the key cell of the row of this number, live or retracted; null where it is gone.
+    /// A copy of the key cell of the row of this number, live or retracted; null where it is released.
     fn key_cell(&self, number: usize) -> Result<Value, AllocError>
         requires { number < length self.now.slots }
         ensures { IfOk result (λ cell. cell ≡ key_in self.now.table (row_of self.now.slots number)) }
@@ -769,8 +768,8 @@ impl RowStore {
         self.numbers.len()
     }
 
-    /// The least number from this one on of which something is kept; the number of rows where there is none. The rows
-    /// before it aren't live.
+    /// The least number from this one on that has an entry; the number of rows where there is none. The rows before it
+    /// aren't live.
     pub(crate) fn next_retained(&self, number: usize) -> usize
         requires { number ≤ length self.now.slots }
         ensures from { number ≤ result }

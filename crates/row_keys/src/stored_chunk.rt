@@ -34,28 +34,28 @@ use smallvec::SmallVec;
 use std::alloc::{AllocError, Global};
 use std::marker::Model;
 
-/// The flags of so many rows take no memory of their own.
+/// The flags of up to this many rows take no memory of their own.
 const FEW_ROWS: usize = 16;
 
-/// Some rows in the order of their numbers: the checked columns in which they lie, and which of them are gone. Where
-/// all are gone there are no columns.
+/// Some rows in the order of their numbers: the checked columns in which they lie, and which of them are released.
+/// Where all are there are no columns.
 ///
 /// Contracts see a `Chunk`.
 #[derive(Drop)]
 pub struct StoredChunk {
     /// The least number that a row of the chunk may have.
     pub first: usize,
-    /// The chunk has the numbers from `first` to before `first + span`. One whose row isn't kept has no row.
+    /// The chunk has the numbers from `first` to before `first + span`. A number whose row isn't retained has no row.
     pub span: usize,
-    /// The numbers of the rows; none where they follow one another from the first on.
+    /// The numbers of the rows; none where they are consecutive, with `first` as the first.
     pub numbers: Vec<usize>,
-    /// The columns may hold more rows than there are flags: the others were taken back.
+    /// The columns may hold more rows than there are flags: the others were removed.
     pub batch: Batch,
     /// The flags of a few rows lie in the chunk itself.
     pub gone: SmallVec<bool, FEW_ROWS>,
-    /// How many rows aren't gone, at most.
+    /// An upper bound on the number of rows that aren't released.
     pub left: usize,
-    /// With fewer rows left, the chunk is written anew.
+    /// With fewer rows remaining, the chunk is rewritten.
     pub enough: usize,
 }
 
@@ -71,7 +71,7 @@ impl Model for StoredChunk {
         c.batch.columns.items c.gone.items };
 }
 
-/// Flags of `rows` rows of which none is gone.
+/// Flags of `rows` rows of which none is released.
 pub(crate) fn flags(alloc: Global, rows: usize) -> Result<SmallVec<bool, FEW_ROWS>, AllocError>
     ensures { IfOk result (λ flags. flags.items ≡ replicate rows false) }
 {
@@ -90,7 +90,7 @@ fn count_below(numbers: &[usize], number: usize) -> usize
     )
 }
 
-/// The place of a number among these.
+/// The index of a number among these.
 fn place_among(numbers: &[usize], number: usize) -> Option<usize>
     requires { (from : ℕ) × (end : ℕ) × AreRising from numbers.now end }
     ensures { MatchOption result (IsNoneOf numbers.now number) (IsPlaceOf numbers.now number) }
@@ -102,7 +102,7 @@ fn place_among(numbers: &[usize], number: usize) -> Option<usize>
     }
 }
 
-/// The place of a number among `count` that follow one another.
+/// The index of a number among `count` consecutive ones.
 fn place_in_turn(first: usize, count: usize, number: usize) -> Option<usize>
     ensures { MatchOption result (IsNoneOf (in_turn first count) number) (IsPlaceOf (in_turn first count) number) }
 {
@@ -123,7 +123,7 @@ pub(crate) fn index_of(chunk: &StoredChunk, number: usize) -> Option<usize>
     place_among(&chunk.numbers, number)
 }
 
-/// Row `index` of a chunk: without cells where it is gone.
+/// Row `index` of a chunk: without cells where it is released.
 pub(crate) fn row_of(chunk: &StoredChunk, index: usize) -> StoredRow<'_>
     requires within { index < length chunk.now.gone }
     requires long { IsLong chunk.now }
@@ -135,7 +135,7 @@ pub(crate) fn row_of(chunk: &StoredChunk, index: usize) -> StoredRow<'_>
     StoredRow::new(&chunk.batch.columns, index)
 }
 
-/// Whether all rows are gone.
+/// Whether all rows are released.
 fn are_gone(gone: &[bool]) -> bool
     ensures { result ≡ true → All (λ g. g ≡ true) gone.now }
 {
@@ -147,7 +147,7 @@ fn are_gone(gone: &[bool]) -> bool
     true
 }
 
-/// Releases row `index` of a chunk, and with the last one its columns. It returns whether these went.
+/// Releases row `index` of a chunk, and with the last one its columns. It returns whether the columns were released.
 pub(crate) fn release_in(alloc: Global, chunk: &mut StoredChunk, index: usize) -> bool
     requires { index < length chunk.old.gone }
     ensures { Releases chunk.old index chunk.new }
@@ -163,7 +163,7 @@ pub(crate) fn release_in(alloc: Global, chunk: &mut StoredChunk, index: usize) -
     true
 }
 
-/// How many of `count` numbers that follow one another are below this one.
+/// How many of `count` consecutive numbers are below this one.
 fn count_in_turn(first: usize, count: usize, number: usize) -> usize
     ensures { AreBelow number (in_turn first count) result }
 {
@@ -181,7 +181,7 @@ fn rows_below(chunk: &StoredChunk, number: usize) -> usize
     count_below(&chunk.numbers, number)
 }
 
-/// Forgets the rows of a chunk from this number on.
+/// Removes the rows of a chunk from this number on.
 pub(crate) fn shorten(chunk: &mut StoredChunk, len: usize)
     requires below { chunk.old.first < len }
     requires long { IsLong chunk.old }

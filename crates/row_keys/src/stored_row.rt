@@ -133,14 +133,14 @@ impl Visit {
     }
 }
 
-/// Whether a number is one above another.
+/// Whether a number is the one after another.
 fn follows(last: usize, number: usize) -> bool
     ensures { result ≡ nat_eq number (last + 1) }
 {
     number > 0 && number - 1 == last
 }
 
-/// How many runs of numbers there are that follow one another.
+/// How many runs of consecutive numbers there are.
 fn count_runs(numbers: &[usize]) -> usize
     ensures { result ≡ runs_in numbers.now }
 {
@@ -190,7 +190,7 @@ impl Visits {
         self.numbers.len()
     }
 
-    /// The visit of one of the rows. It counts as one of these.
+    /// The visit of one of the rows. It is one of those that were counted.
     pub fn at(&self, place: usize) -> Visit
         requires { place < length self.now }
         ensures { result ≡ get_or self.now place 0 }
@@ -198,7 +198,7 @@ impl Visits {
         Visit::new(self.numbers[place])
     }
 
-    /// How many runs of rows there are whose numbers follow one another.
+    /// How many runs of rows with consecutive numbers there are.
     pub fn count_runs(&self) -> usize
         ensures { result ≡ runs_in self.now }
     {

@@ -1,4 +1,4 @@
-//! The rows of a store by number, in the columns in which they came or into which they were merged.
+//! The rows of a store by number, in the columns of their batches or those into which they were merged.
 
 ghost use Rattle.std.specs.Prelude.{
   ◌≡◌,
@@ -60,22 +60,22 @@ use std::marker::Model;
 use values::LayoutTree;
 use values::limits::MAX_BATCH_ROWS;
 
-/// How many small chunks are merged at once. They have fewer rows together than are written at once.
+/// How many small chunks are merged at once. Together they have no more rows than a batch may have.
 const SMALL_CHUNKS: usize = 32;
 
 /// Chunks with fewer rows are small.
 const SMALL_CHUNK: usize = 32;
 
-/// How many chunks are merged at once of which the last is of medium size, and the others are or are small.
+/// How many chunks are merged at once where the last is of medium size, and the others are of medium size or small.
 const MEDIUM_CHUNKS: usize = 16;
 
 /// Chunks with fewer rows that aren't small are of medium size.
 const MEDIUM_CHUNK: usize = 64;
 
-/// A chunk of which few rows are left is written anew with the one beside it, where both have no more than this many.
+/// A chunk of which few rows remain is rewritten together with a neighbor where both have no more rows than this.
 const JOINED_ROWS: usize = 256;
 
-/// The rows of all numbers: those that are gone have no cells.
+/// The rows of all numbers: released ones have no cells.
 ///
 /// Contracts see the list of the rows' cells.
 #[derive(Drop)]
@@ -117,7 +117,7 @@ fn count_from(chunks: &[StoredChunk], number: usize) -> usize
     )
 }
 
-/// The place of the chunk that has this number, if there is one.
+/// The index of the chunk that has this number, if there is one.
 pub(crate) fn chunk_of(chunks: &[StoredChunk], number: usize) -> Option<usize>
     requires { (len : ℕ) × AreChunks 0 chunks.now len }
     ensures { MatchOption result (row_in chunks.now number ≡ []) (LiesIn chunks.now number) }
@@ -131,14 +131,14 @@ pub(crate) fn chunk_of(chunks: &[StoredChunk], number: usize) -> Option<usize>
     }
 }
 
-/// Where the row of a number lies: the place of its chunk, and its index there.
+/// Where the row of a number lies: the index of its chunk, and its index there.
 #[derive(Clone, Copy, Debug)]
 pub(crate) struct Location {
     pub(crate) chunk: usize,
     pub(crate) index: usize,
 }
 
-/// Where the row of this number lies, if it is kept: in the chunk at this place, whose numbers it is among.
+/// Where the row of this number lies, if it is retained: in the chunk at this index, which spans the number.
 pub(crate) fn index_in(chunks: &[StoredChunk], place: usize, number: usize) -> Option<Location>
     requires { LiesIn chunks.now number place }
     ensures { MatchOption result (row_in chunks.now number ≡ []) (λ at. LiesAt chunks.now number at.chunk at.index) }
@@ -150,7 +150,7 @@ pub(crate) fn index_in(chunks: &[StoredChunk], place: usize, number: usize) -> O
     })
 }
 
-/// Where the row of this number lies, if it is kept.
+/// Where the row of this number lies, if it is retained.
 fn locate(chunks: &[StoredChunk], number: usize) -> Option<Location>
     requires { (len : ℕ) × AreChunks 0 chunks.now len }
     ensures { MatchOption result (row_in chunks.now number ≡ []) (λ at. LiesAt chunks.now number at.chunk at.index) }
@@ -159,7 +159,7 @@ fn locate(chunks: &[StoredChunk], number: usize) -> Option<Location>
     index_in(chunks, place, number)
 }
 
-/// Releases row `index` of the chunk at this place. It returns whether the chunk's columns went.
+/// Releases row `index` of the chunk at this index. It returns whether the chunk's columns were released.
 fn release_at(alloc: Global, chunks: &mut Vec<StoredChunk>, place: usize, index: usize) -> bool
     requires { (number : ℕ) × LiesAt chunks.old.items number place index }
     ensures { ReleasesAt chunks.old.items place index chunks.new.items }
@@ -167,14 +167,14 @@ fn release_at(alloc: Global, chunks: &mut Vec<StoredChunk>, place: usize, index:
     release_in(alloc, &mut chunks[place], index)
 }
 
-/// Puts one chunk in the place of another.
+/// Replaces a chunk by another.
 fn put_chunk(place: &mut StoredChunk, chunk: StoredChunk)
     ensures { place.new ≡ chunk }
 {
     *place = chunk;
 }
 
-/// Puts one chunk in the place of those from place `from` up to, and without, place `to`.
+/// Replaces the chunks from index `from` up to, and without, `to` by one chunk.
 fn replace(chunks: &mut Vec<StoredChunk>, from: usize, to: usize, chunk: StoredChunk)
     requires order { from < to }
     requires within { to ≤ length chunks.old.items }
@@ -188,7 +188,7 @@ fn replace(chunks: &mut Vec<StoredChunk>, from: usize, to: usize, chunk: StoredC
     put_chunk(&mut chunks[from], chunk);
 }
 
-/// Whether the last `count` chunks have fewer than so many rows each.
+/// Whether the last `count` chunks have fewer rows than this each.
 fn end_small(chunks: &[StoredChunk], count: usize, rows: usize) -> bool
     ensures { result ≡ true → count ≤ length chunks.now }
 {
@@ -211,7 +211,7 @@ fn ends_medium(chunks: &[StoredChunk]) -> bool {
     }
 }
 
-/// How many of the last chunks have so few rows that they are merged; 0 where they haven't.
+/// How many of the last chunks have so few rows that they are merged; 0 where none are.
 fn count_small(chunks: &[StoredChunk]) -> usize
     ensures { result ≤ length chunks.now }
 {
@@ -224,12 +224,12 @@ fn count_small(chunks: &[StoredChunk]) -> usize
     0
 }
 
-/// Whether fewer rows of this chunk are left than are worth its memory.
+/// Whether a chunk has fewer remaining rows than justify its memory.
 fn is_thin(chunk: &StoredChunk) -> bool {
     chunk.left < chunk.enough
 }
 
-/// Waits with writing a chunk anew until half of its rows are left, where it couldn't be done.
+/// Lets a chunk that couldn't be rewritten wait until half of its rows remain.
 fn ease(chunk: &mut StoredChunk)
     ensures { chunk.new ≡ chunk.old }
 {
@@ -238,14 +238,14 @@ fn ease(chunk: &mut StoredChunk)
     }
 }
 
-/// Whether a chunk is written anew together with the one beside it, which has no more than twice as many rows.
+/// Whether a chunk is rewritten together with a neighbor, which has no more than twice as many rows.
 fn joins(beside: &StoredChunk, chunk: &StoredChunk) -> bool {
     beside.left > 0
         && beside.left / 2 <= chunk.left
         && beside.left.saturating_add(chunk.left) <= JOINED_ROWS
 }
 
-/// The chunks that are written anew with the one at this place: from which one on, and up to which one.
+/// The chunks that are rewritten with the one at this index: the index of the first, and the one after the last.
 fn joined(chunks: &[StoredChunk], place: usize) -> (usize, usize)
     requires { place < length chunks.now }
 {
@@ -265,7 +265,7 @@ fn joined(chunks: &[StoredChunk], place: usize) -> (usize, usize)
     (place, place + 1)
 }
 
-/// The row of a chunk from which on no more are left than are written at once; 0 where that is the first.
+/// The row of a chunk from which on no more rows remain than a batch may have; 0 where that is the first.
 fn tail_start(gone: &[bool]) -> usize {
     let mut at = gone.len();
     let mut count = 0;
@@ -278,7 +278,7 @@ fn tail_start(gone: &[bool]) -> usize {
     at
 }
 
-/// Forgets the rows of a chunk from this number on, so many of which aren't gone.
+/// Removes the rows of a chunk from this number on, of which `rows` aren't released.
 fn drop_tail(chunk: &mut StoredChunk, number: usize, rows: usize)
     requires below { chunk.old.first < number }
     requires long { IsLong chunk.old }
@@ -288,7 +288,7 @@ fn drop_tail(chunk: &mut StoredChunk, number: usize, rows: usize)
     chunk.left = chunk.left.saturating_sub(rows);
 }
 
-/// Puts the last rows of the chunk at this place, which were written anew, behind it. It returns whether memory was
+/// Inserts the last rows of the chunk at this index, which were rewritten, after it. It returns whether memory was
 /// given.
 fn split(chunks: &mut Vec<StoredChunk>, place: usize, tail: StoredChunk) -> bool
     requires place { place < length chunks.old.items }
@@ -327,7 +327,7 @@ fn ends_above(chunks: &[StoredChunk], len: usize) -> bool
     }
 }
 
-/// Forgets the rows from this number on.
+/// Removes the rows from this number on.
 fn cut(chunks: &mut Vec<StoredChunk>, len: usize)
     requires { (end : ℕ) × AreChunks 0 chunks.old.items end × (len ≤ end) }
     ensures { IsCut chunks.old.items len chunks.new.items }
@@ -404,7 +404,7 @@ impl StoredRows {
         Ok(())
     }
 
-    /// Keeps the first `len` rows. It takes no memory.
+    /// Removes all rows but the first `len`. It takes no memory.
     pub(crate) fn truncate(&mut self, len: usize)
         ensures { self.new ≡ take len self.old }
     {
@@ -414,7 +414,7 @@ impl StoredRows {
         }
     }
 
-    /// Forgets the cells of a row; with the last row of a batch its columns go. It takes no memory.
+    /// Releases the cells of a row, and with the last row of a batch its columns. It takes no memory.
     pub(crate) fn release(&mut self, number: usize)
         ensures { self.new ≡ slice_set self.old number [] }
     {
@@ -426,7 +426,7 @@ impl StoredRows {
         }
     }
 
-    /// Forgets the chunks that have no rows, where they are many. It takes no memory.
+    /// Removes the chunks that have no rows, where they are many. It takes no memory.
     pub(crate) fn tidy(&mut self)
         ensures { self.new ≡ self.old }
     {
@@ -436,8 +436,8 @@ impl StoredRows {
         }
     }
 
-    /// Writes the chunks from place `from` up to, and without, place `to` anew as one, if it takes no more memory than
-    /// they do. Where memory for it is refused, they stay.
+    /// Rewrites the chunks from index `from` up to, and without, `to` as one, if it takes no more memory than they do.
+    /// Where memory for it is refused, they stay.
     fn rewrite(&mut self, layouts: &[LayoutTree], from: usize, to: usize)
         requires held { All (IsHeld (kids_of layouts.now)) self.old }
         requires narrow { roses_size (kids_of layouts.now) ≤ max_fields }
@@ -452,8 +452,8 @@ impl StoredRows {
         }
     }
 
-    /// Writes the last rows of a chunk anew as one of their own, if more are left than are written at once. It returns
-    /// whether that was done.
+    /// Rewrites the last rows of a chunk as one of their own, if more remain than a batch may have. It returns whether
+    /// that was done.
     fn shed(&mut self, layouts: &[LayoutTree], place: usize) -> bool
         requires held { All (IsHeld (kids_of layouts.now)) self.old }
         requires narrow { roses_size (kids_of layouts.now) ≤ max_fields }
@@ -474,7 +474,7 @@ impl StoredRows {
         }
     }
 
-    /// Writes the last rows of a chunk anew, as many as are written at once, until no more are left of it.
+    /// Rewrites the last rows of a chunk, as many as a batch may have, until no more remain in it.
     fn shed_all(&mut self, layouts: &[LayoutTree], place: usize)
         requires held { All (IsHeld (kids_of layouts.now)) self.old }
         requires narrow { roses_size (kids_of layouts.now) ≤ max_fields }
@@ -506,7 +506,7 @@ impl StoredRows {
         self.rewrite(layouts, len - count, len);
     }
 
-    /// Merges the last chunks where they are small, and what comes of it once more.
+    /// Merges the last chunks where they are small, and the result once more.
     pub(crate) fn merge_last(&mut self, layouts: &[LayoutTree])
         requires held { All (IsHeld (kids_of layouts.now)) self.old }
         requires narrow { roses_size (kids_of layouts.now) ≤ max_fields }
@@ -520,7 +520,7 @@ impl StoredRows {
         }
     }
 
-    /// Whether few rows are left of the chunk in which this number lies.
+    /// Whether few rows remain in the chunk in which this number lies.
     pub(crate) fn is_thin_at(&self, number: usize) -> bool {
         match chunk_of(&self.chunks, number) {
             Some(place) => is_thin(&self.chunks[place]),
@@ -528,7 +528,7 @@ impl StoredRows {
         }
     }
 
-    /// Waits with writing the chunk of this number anew, where it is thin still.
+    /// Lets the chunk of this number wait to be rewritten, where it still has few rows.
     fn ease_at(&mut self, number: usize)
         ensures { self.new ≡ self.old }
     {
@@ -537,8 +537,7 @@ impl StoredRows {
         }
     }
 
-    /// Writes the chunk of this number anew where few of its rows are left, with the one beside it if that is small
-    /// too.
+    /// Rewrites the chunk of this number where few of its rows remain, together with a neighbor if that is small too.
     pub(crate) fn renew(&mut self, layouts: &[LayoutTree], number: usize)
         requires held { All (IsHeld (kids_of layouts.now)) self.old }
         requires narrow { roses_size (kids_of layouts.now) ≤ max_fields }
@@ -559,7 +558,7 @@ impl StoredRows {
         self.ease_at(number);
     }
 
-    /// The row of this number: without cells where it is gone, or never came.
+    /// The row of this number: without cells where it is released, or was never added.
     pub(crate) fn row(&self, number: usize) -> StoredRow<'_>
         ensures { result ≡ get_or self.now number [] }
     {
@@ -569,7 +568,7 @@ impl StoredRows {
         row_of(&self.chunks[at.chunk], at.index)
     }
 
-    /// Where the rows of these numbers lie, which are kept: as many as lie one after the other at once.
+    /// Where the rows of these numbers lie, which are retained, in ranges of consecutive rows.
     pub(crate) fn ranges(
         &self,
         alloc: Global,
@@ -585,7 +584,7 @@ impl StoredRows {
         find_ranges(alloc, &self.chunks, numbers)
     }
 
-    /// Where the rows of these numbers lie, which are kept: each by itself.
+    /// Where the rows of these numbers lie, which are retained: each by itself.
     pub(crate) fn locations(
         &self,
         alloc: Global,
@@ -602,8 +601,8 @@ impl StoredRows {
         locate_rows(alloc, &self.chunks, numbers)
     }
 
-    /// Where the rows of these numbers lie, which are kept: each by itself. Where there is no number, the place is in
-    /// no batch.
+    /// Where the rows of these numbers lie, which are retained: each by itself. Where there is no number, the location
+    /// is in no batch.
     pub(crate) fn locations_if(
         &self,
         alloc: Global,

@@ -1,6 +1,6 @@
 //! Changes of the rows of a table.
 
-/// How an accepted edit changed the rows of its table. It is all that taking the edit back needs.
+/// How an accepted edit changed the rows of its table: all that reverting the edit needs.
 #[derive(Drop)]
 pub enum TableChange {
     /// This many rows were appended.

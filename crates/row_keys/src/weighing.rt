@@ -17,7 +17,7 @@ use body_writer::{RowRange, heaviest_row};
 use std::alloc::{AllocError, Global};
 use values::{CellView, LayoutTree, null_weight, weight};
 
-/// Whether one of the `rows` rows is too heavy. Each is weighed by itself only where the columns' bounds are large.
+/// Whether one of the `rows` rows is too heavy. Rows are weighed one by one only where the columns' bounds are large.
 pub(crate) fn has_heavy_row(columns: &[Column], rows: usize) -> bool
     requires { All (λ c. length c.cells ≡ rows) columns.now }
     ensures { result ≡ any_heavy (layouts_in columns.now) (batch_rows rows columns.now) }

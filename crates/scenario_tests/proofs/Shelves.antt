@@ -1,4 +1,4 @@
--- What a shelf holds once a new file took the place of `out`.
+-- What a shelf holds once a new file replaced `out`.
 use Rattle.std.proofs.Common.{◌≡◌, Bool, true, ℕ, List, Option, Some, None, refl, subst, sym}
 use Rattle.std.specs.Prelude.{codes, if◌then◌else◌}
 use Rattle.std.specs.Str.{bytes_eq}

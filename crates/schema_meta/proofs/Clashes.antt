@@ -31,7 +31,7 @@ use Rattle.schema_meta.specs.Dictionaries.{or_next, type_in, type_below, agrees,
 abbrev left : List (Rose Entry) → ℕ → Roses Entry
 left fs k = kids_of (drop k fs)
 
--- a field that has not the dictionary
+-- a field that doesn't have the dictionary
 pub types_pass :
     (id : ℤ) (fs : List (Rose Entry)) (k : ℕ) (e d : Rose Entry) (whole : Option ColType) → e ≡ get_or fs k d
     → k < length fs

@@ -1,4 +1,4 @@
--- What is known of fields that were read: how many they are, and that each has the children that its layout wants.
+-- What is known of fields that were read: how many they are, and that each has the children that its layout requires.
 use Rattle.std.proofs.Common.{
   ◌≡◌,
   ℕ,
@@ -88,7 +88,7 @@ use Rattle.schema_meta.specs.Totals.{sum_from, total, total_at, total_in}
 use Rattle.schema_meta.specs.Schema.{columns_of, endianness_of, schema_of, validated_fields}
 use Rattle.schema_meta.proofs.Faults.{needed, passed}
 
--- the children that a kind may have are those that the layouts of its types want
+-- the children that a kind may have are those that the layouts of its types require
 
 kids_of_all : (kids : List (Rose Entry)) → kids_count (layouts_of kids) ≡ length kids
 kids_of_all [] = refl
@@ -140,7 +140,7 @@ unfolding field_encoding_of
 encoding_valid k t s c e is =
     let read = bind_Ok (readable (subtable_of t fbs.dictionary)) (coded_by k) c e in coded_valid k read.0 s c read.2 is
 
--- indices have no children, and nor have the values that they stand for
+-- indices have no children, nor have the values to which they refer
 single_node : (s : ColType) (w : IntWidth) (b : Bool) (kids : Roses Layout) → IsSingle s → IsNode (layout_by s) kids
     → IsNode (Int w b) kids
 single_node s w b none is h = tt
@@ -162,8 +162,8 @@ slot_node : (c : Option DictionaryEncoding) (s : ColType) (kids : Roses Layout) 
 slot_node None s kids is h = h
 slot_node (Some c) s kids is h = single_node s c.index.width c.index.signed kids is h
 
--- what is known of the fields of a vector that was read: how many they are, and with those below them, and how deep
--- they go
+-- what is known of the fields of a vector that was read: their number, with those below them and without, and their
+-- depth
 pub record AreKnown (n total depth : ℕ) (fs : List (Rose Entry)) : Type 0 where
   pub long : length fs ≡ n
   pub size : roses_size (kids_of fs) ≡ total
@@ -228,7 +228,7 @@ children_known below depth count k t fs known e =
       subst P parts.4 (below_in below depth count k read.0 parts.1 known (needed _ _ parts.0 parts.2) parts.3),
     )
 
--- a field: how many there are with those below it, how deep they go, and that its layout is whole
+-- a field: the number of fields with those below it, their depth, and that its layout is whole
 pub record IsKnown (depth : ℕ) (count : Vector → ℕ) (v : Vector) (i : ℕ) (f : Rose Entry) : Type 0 where
   pub size : rose_size f ≡ 1 + total_at count v i
   pub shallow : rose_depth f ≤ suc depth

@@ -138,7 +138,7 @@ below-depth : (s : ColType) (fs : Roses Entry) → roses_depth (logical_below s 
 below-depth s none = refl
 below-depth s (more (node e kids) fs) = rw (below-depth e.stored kids, below-depth s fs) refl
 
--- so do the slots
+-- so do the null weights
 
 mutual
   null_weight_within-narrow : (t : Rose Layout) → null_weight_fits (narrow_tree t) ≡ null_weight_fits t

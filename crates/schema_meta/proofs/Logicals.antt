@@ -1,4 +1,4 @@
--- The names and types of fields, and the logical columns that they are.
+-- The names and types of fields, and the logical columns of fields.
 use Rattle.std.proofs.Common.{◌≡◌, List, [], ◌∷◌, map, refl, ap}
 use Rattle.values.specs.Rose.{Rose, node, Roses, none, more, kids_of}
 use Rattle.values.proofs.Roses.{kid_smaller}

@@ -1,4 +1,4 @@
--- A fault is in the schema's reading exactly where it stands by a path.
+-- A fault is in the schema's reading exactly where it is found by a path.
 use Rattle.std.proofs.Common.{
   ◌≡◌,
   ◌⊎◌,

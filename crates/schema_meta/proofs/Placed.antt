@@ -83,7 +83,7 @@ use Rattle.schema_meta.specs.FieldLayouts.{
 use Rattle.schema_meta.specs.Parts.{dictionary_values, decoded, decoded_all, arrays_of, values_array}
 use Rattle.schema_meta.specs.PlaceLaw.{HaveLength, PlaceLaw, AreValues, TypedArraysLaw, SameArraysLaw, ValuesLaw}
 
--- the layouts of what is placed are those that it is placed for
+-- the layouts of the arrays are those by which their buffers were found
 mutual
   tree-same : (nodes : List FieldNode) (ranges : List BufferRange) (n b : ℕ) (t : Rose Layout)
       → layout_of (placed nodes ranges n b t) ≡ t

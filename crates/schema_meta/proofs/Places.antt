@@ -16,7 +16,7 @@ use Rattle.values.specs.Datum.{Datum}
 abbrev pub arrays_from : (ℤ → List Datum) → List FieldNode → List BufferRange → ℕ → ℕ → Roses Entry → Roses ArrayData
 arrays_from values nodes ranges n b fs = decoded_all values fs (placed_all nodes ranges n b (slot_layouts_below fs))
 
--- the next of them, where its array is this, and the arrays after it begin there
+-- the next of them, where its array is this, and the arrays after it begin here
 pub arrays_next :
     (values : ℤ → List Datum) (nodes : List FieldNode) (ranges : List BufferRange) (fs : List (Rose Entry)) (k : ℕ)
     (e d : Rose Entry) (n b m c : ℕ) (a : Rose ArrayData) → e ≡ get_or fs k d → k < length fs

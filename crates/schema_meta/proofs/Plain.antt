@@ -14,7 +14,7 @@ use Rattle.schema_meta.specs.PlainLaw.{PlainSlots, PlainArrays}
 use Rattle.schema_meta.specs.SchemaLaw.{stored_field, stored_below, stored_fields}
 use Rattle.schema_meta.proofs.SoundFields.{layouts-read}
 
--- what is read of the fields, from their list
+-- what is read from the fields, from their list
 stored-kids : (fs : List (Rose NamedType)) → kids_of (stored_fields fs) ≡ stored_below (kids_of fs)
 stored-kids [] = refl
 stored-kids (f ∷ fs) = ap (λ r. more (stored_field f) r) (stored-kids fs)

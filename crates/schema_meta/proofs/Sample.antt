@@ -1,5 +1,5 @@
--- The metadata of a Schema message that another program wrote, with the columns k and v of int64: the definitions
--- answer what it says.
+-- The metadata of a Schema message that another program wrote, with the columns k and v of int64: the definitions give
+-- what it means.
 use Rattle.std.proofs.Common.{
   ◌≡◌,
   ℕ,
@@ -91,8 +91,8 @@ letter c h = is_utf8-from_IsUtf8 (c ∷ []) (IsUtf8-from_ascii (c ∷ []) ascii)
     ascii zero = h
     ascii (suc i) = omega arith
 
--- the columns, and what a changed byte is the fault of: the root's place, the endianness, the first column's kind and
--- its width
+-- the columns, and the fault of a changed byte: the root's offset, the endianness, the first column's kind and its
+-- width
 pub sample :
     (schema_in metadata ≡ Ok (column 107 ∷ column 118 ∷ []))
     × (schema_in (slice_set metadata 0 220) ≡ Err (one fault.BadTable))
@@ -129,8 +129,8 @@ coded_by_index index =
       encoding = Some (record { id = pos 7; index = index });
     }) none
 
--- the field, the indices where no type is said of them, and the faults of a struct in a dictionary and of indices of 17
--- bits
+-- the field, the indices where no type is given for them, and the faults of a struct in a dictionary and of indices of
+-- 17 bits
 pub coded_sample :
     (field_in coded_field ≡ Ok (coded_by_index (record { width = int.Bits16; signed = true })))
     × (field_in (slice_set coded_field 70 0) ≡ Ok (coded_by_index (record { width = int.Bits32; signed = true })))

@@ -144,7 +144,7 @@ header-read : (t h : Table) → subtable_of t message_fbs.header ≡ Some (Some 
 unfolding header_table
 header-read t h e = rw e refl
 
--- What the header means under its kind is what the metadata means.
+-- The meaning of the header under its kind is that of the metadata.
 meta-held : (known : Known) (b : List ℕ) (k : MessageKind) (header : Nodes) (body : ℕ) (m : Meta) → body ≤ max_body_size
     → RootHeld b (message_slots k header body)
     → ((t h : Table) → header_table t ≡ Ok h → Held h.bytes (slot_of h) 0 header

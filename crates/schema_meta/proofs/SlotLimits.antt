@@ -1,4 +1,4 @@
--- The slots of fields, as loops add them up.
+-- The null weights of fields, as loops add them up.
 use Rattle.std.proofs.Common.{
   ◌≡◌,
   ℕ,

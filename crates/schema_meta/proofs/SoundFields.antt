@@ -1,4 +1,4 @@
--- What a schema within the limits says of fields that lie at a level, and what is read of them.
+-- What a schema within the limits says of fields that lie at a level, and what is read from them.
 use Rattle.std.proofs.Common.{◌≡◌, ℕ, suc, ◌≤◌, true, List, [], ◌∷◌, refl, ap, subst, arith}
 use Rattle.std.specs.Prelude.{max}
 use Rattle.flatbuf.specs.Tree.{count}

@@ -35,7 +35,7 @@ use Rattle.schema_meta.specs.BatchHead.{BatchHead}
 use Rattle.schema_meta.specs.Counts.{count_in}
 use Rattle.schema_meta.specs.MessageFbs as fbs
 
--- the number of 64 bits at a place
+-- the number of 64 bits at an offset
 unfoldable pub long_at : List ℕ → ℕ → ℕ
 long_at bytes p = little_number 8 (drop p bytes)
 
@@ -48,7 +48,7 @@ unfoldable pub node_of : List ℕ → ℕ → Reading FieldNode
 node_of bytes i =
     if nat_le (long_at bytes (16 * i)) max_node_length then Ok (node_made bytes (16 * i)) else Err (one fault.BadLength)
 
--- A buffer is two numbers of 64 bits: a place in the body, and a length. It lies within the body, which no negative
+-- A buffer is two numbers of 64 bits: an offset in the body, and a length. It lies within the body, which no negative
 -- number does when it is read without a sign.
 abbrev pub range_within : ℕ → ℕ → ℕ → Reading BufferRange
 range_within body from len = if nat_le (from + len) body then Ok (record { from = from; len = len })
@@ -57,7 +57,7 @@ range_within body from len = if nat_le (from + len) body then Ok (record { from 
 unfoldable pub range_of : ℕ → List ℕ → ℕ → Reading BufferRange
 range_of body bytes i = range_within body (long_at bytes (16 * i)) (long_at bytes (16 * i + 8))
 
--- structs of 16 bytes, as many as the schema wants
+-- structs of 16 bytes, as many as the schema requires
 abbrev pub counted : StreamFault → ℕ → List ℕ → Reading (List ℕ)
 counted c n bytes = if length bytes == 16 * n then Ok bytes else Err (one c)
 
@@ -98,7 +98,7 @@ lengths_fit rows ls nodes = columns_fit nodes 0 rows ls
 abbrev pub fitting : ℕ → Roses Layout → List FieldNode → Reading (List FieldNode)
 fitting rows ls nodes = if lengths_fit rows ls nodes then Ok nodes else Err (one fault.BadLength)
 
--- Lengths are checked by place where the number of nodes is right.
+-- Lengths are checked node by node where the number of nodes is right.
 unfoldable pub nodes_of : Roses Layout → ℕ → Table → Reading (List FieldNode)
 nodes_of ls rows t = structs_in fault.NodeCount (roses_size ls) t fbs.nodes >>= nodes_in (roses_size ls)
     >>= fitting rows ls
@@ -109,7 +109,7 @@ ranges_in n body bytes = each (range_of body bytes) 0 n
 unfoldable pub ranges_of : ℕ → ℕ → Table → Reading (List BufferRange)
 ranges_of n body t = structs_in fault.BufferCount n t fbs.buffers >>= ranges_in n body
 
--- Of compression only the presence is read.
+-- Compression is refused by its presence, without reading it.
 unfoldable pub plain : Table → Reading (Unit {0})
 plain t = must fault.BadTable (slot_of t fbs.compression) >>= λ place. refused_if fault.Compressed (is_some place)
 

@@ -21,14 +21,14 @@ use Rattle.schema_meta.specs.BatchHead.{BatchHead}
 use Rattle.schema_meta.specs.Batch.{batch_of}
 use Rattle.schema_meta.specs.MessageFbs as fbs
 
--- how values of this type lie in the body of a dictionary batch
+-- the layout of values of this type in the body of a dictionary batch
 abbrev pub value_layout : ColType → Rose Layout
 value_layout s = node (layout_by s) none
 
 abbrev pub value_layouts : ColType → Roses Layout
 value_layouts s = more (value_layout s) none
 
--- how many values the dictionary with this id has, none where no batch came for it
+-- how many values the dictionary with this id has, none where it had no batch
 abbrev pub count_of : List (ℤ × ℕ) → ℤ → ℕ
 count_of counts id = unwrap_or (lookup (int_eq id) counts) 0
 

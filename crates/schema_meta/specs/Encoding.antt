@@ -1,4 +1,4 @@
--- Apache Arrow Schema.fbs, table DictionaryEncoding: which dictionary a field's slots are indices into.
+-- Apache Arrow Schema.fbs, table DictionaryEncoding: the dictionary to which a field's slots are indices.
 use Rattle.std.specs.Prelude.{ℤ, pos, Bool, true, false, Option, None, Some, Ok}
 use Rattle.std.specs.Ordering.{int_eq}
 use Rattle.flatbuf.specs.Layout.{Table, subtable_of}
@@ -17,7 +17,7 @@ use Rattle.field_types.specs.SchemaFbs as fbs
 unfoldable pub id_of : Table → Reading ℤ
 id_of t = long_of t fbs.dictionary_id
 
--- Where no index type is said, indices have 32 bits and a sign.
+-- Where no index type is given, indices have 32 bits and a sign.
 abbrev pub index_in : Option Table → Reading IndexType
 index_in None = Ok (record { width = int.Bits32; signed = true })
 index_in (Some t) = index_of t
@@ -36,7 +36,7 @@ encoding id index = record { id = id; index = index }
 unfoldable pub encoding_of : Table → Reading DictionaryEncoding
 encoding_of t = both first (both encoding (id_of t) (index_type_of t)) (dense_of t)
 
--- Lists and structs stand in no dictionary.
+-- Lists and structs have no dictionary.
 abbrev pub may_be_encoded : TypeKind → Bool
 may_be_encoded (kind.List o) = false
 may_be_encoded kind.Struct = false

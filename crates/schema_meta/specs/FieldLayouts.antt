@@ -1,4 +1,4 @@
--- How the columns of a schema lie in memory.
+-- The layouts of a schema's columns.
 use Rattle.std.specs.Prelude.{Bool, true, List, Option, None, Some, ◌&&◌, nat_le}
 use Rattle.values.specs.Limits.{max_null_weight}
 use Rattle.values.specs.Rose.{Rose, node, Roses, none, more, kids_of}
@@ -24,7 +24,7 @@ abbrev mutual
 abbrev pub layouts_of : List (Rose Entry) → Roses Layout
 layouts_of fields = layouts_below (kids_of fields)
 
--- The layout of a field's own slots: those of a field with a dictionary are indices.
+-- The layout of a field's own slots: the slots of a field with a dictionary are indices.
 abbrev pub slot_layout : Option DictionaryEncoding → ColType → Layout
 slot_layout None s = layout_by s
 slot_layout (Some c) s = Int c.index.width c.index.signed
@@ -44,7 +44,7 @@ abbrev mutual
 abbrev pub slot_layouts_of : List (Rose Entry) → Roses Layout
 slot_layouts_of fields = slot_layouts_below (kids_of fields)
 
--- no slot, at any level, is above 2^20
+-- no null weight, at any level, is above 2^20
 abbrev mutual
   pub null_weight_fits : Rose Layout → Bool
   null_weight_fits (node l kids) = nat_le (null_weight (node l kids)) max_null_weight && null_weights_fit kids

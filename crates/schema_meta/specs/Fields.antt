@@ -1,5 +1,5 @@
--- Apache Arrow Schema.fbs, table Field: a field with its children, and the faults that stand in it. The parts of a
--- field are read each by itself.
+-- Apache Arrow Schema.fbs, table Field: a field with its children, and its faults. The parts of a field are read each
+-- by itself.
 use Rattle.std.specs.Prelude.{
   ℕ,
   zero,
@@ -92,7 +92,7 @@ field l c =
 unfoldable pub label_of : Table → Reading Label
 label_of t = both label (name_of t) (bool_of t fbs.nullable)
 
--- Where the kind can't be read, or isn't taken, that is the fault, and nothing that depends on it is read.
+-- Where the kind can't be read, or isn't supported, that is the fault, and nothing that depends on it is read.
 unfoldable pub content_of : (Vector → Reading (List (Rose Entry))) → Table → Reading Content
 content_of below t = do
   k ← kind_of t

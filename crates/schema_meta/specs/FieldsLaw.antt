@@ -31,7 +31,7 @@ abbrev mutual
   AreGoodFields none = Unit {0}
   AreGoodFields (more f fs) = IsGoodField f × AreGoodFields fs
 
--- Fields within the limits on their number, depth and slots, each with the children that its layout wants and with a
+-- Fields within the limits on their number, depth and slots, each with the children that its layout requires and with a
 -- name and a type within bounds, and no two dictionaries of one id and of different types.
 pub record AreFields (fields : List (Rose Entry)) : Type 0 where
   pub few : roses_size (kids_of fields) ≤ max_fields

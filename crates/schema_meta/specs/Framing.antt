@@ -1,6 +1,6 @@
 -- Framing: Arrow Columnar Format, "Encapsulated message format" and "IPC Streaming Format". A message is four bytes FF,
--- the size of the metadata in 32 bits, the metadata, and the body, whose length the metadata says. The size 0 marks the
--- end of the stream.
+-- the size of the metadata in 32 bits, the metadata, and the body, whose length the metadata gives. The size 0 marks
+-- the end of the stream.
 use Rattle.std.specs.Prelude.{
   ℕ,
   ◌+◌,
@@ -38,7 +38,7 @@ size_of size = if nat_le size max_metadata_size then Ok size else Err (one fault
 unfoldable pub framed : ℕ → ℕ → Reading ℕ
 framed mark size = both second (mark_of mark) (size_of size)
 
--- the message is whole once its body is there; `len` bytes are
+-- the message is whole once its body is there; `len` bytes are there
 abbrev pub body_at : ℕ → ℕ → Meta → Reading (Option Whole)
 body_at len front m = if nat_lt len (front + m.body) then Ok None else Ok (Some (record { front = front; meta = m }))
 

@@ -1,5 +1,5 @@
--- The logical schema of a stored one: offsets of any width are the same, a list's items are named `item`, and nothing
--- is said of nulls and dictionaries.
+-- The logical schema of a stored one: offsets of any width are the same, a list's items are named `item`, and
+-- nullability and dictionaries are left out.
 use Rattle.values.specs.Rose.{Rose, node, Roses, none, more}
 use Rattle.values.specs.Logical.{NamedType, logical_column}
 use Rattle.schema_meta.specs.Entry.{Entry}

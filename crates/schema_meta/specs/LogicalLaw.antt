@@ -1,4 +1,4 @@
--- Logical columns lie in memory as the stored ones do, but that all offsets have 32 bits: they hold the same cells,
+-- Logical columns have the layouts of the stored ones, but that all offsets have 32 bits: they hold the same cells,
 -- which weigh the same.
 use Rattle.std.specs.Prelude.{◌≡◌, List, map}
 use Rattle.values.specs.Rose.{Rose, node, Roses, none, more, kids_of}

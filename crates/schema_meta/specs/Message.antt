@@ -1,6 +1,5 @@
--- The metadata of a message: Message.fbs, table `Message`.
--- Not every fault that could be named is collected: what is left out stands only beside one that is kept, so the same
--- metadata is read.
+-- The metadata of a message: Message.fbs, table `Message`. Not every possible fault is collected: one is left out only
+-- where another one is found, so the same metadata is accepted.
 use Rattle.std.specs.Prelude.{ℕ, ℤ, pos, Bool, ◌||◌, Ok, Err, List, Option, None, Some, is_some, ◌==◌, if◌then◌else◌}
 use Rattle.std.specs.Ordering.{int_eq}
 use Rattle.flatbuf.specs.Layout.{Table, root_of, subtable_of}
@@ -84,7 +83,7 @@ header_of known t kind.Schema body = mapped (brings_schema body) (header_table t
 header_of known t kind.Dictionary body = mapped (brings_dictionary body) (dictionary_batch known body t)
 header_of known t kind.Batch body = mapped (brings_batch body) (record_batch known body t)
 
--- Under an unknown kind nothing else is checked. A batch before the schema is refused whatever it holds.
+-- Under an unknown kind nothing else is checked. A batch before the schema is refused whatever it has.
 unfoldable pub meta_of : Known → List ℕ → Reading Meta
 meta_of known bytes =
     must fault.BadTable (root_of bytes) >>= λ t. kind_of t

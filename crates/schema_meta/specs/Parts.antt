@@ -1,5 +1,5 @@
--- The arrays of a batch, one a column: Arrow Columnar Format, "RecordBatch message" and "Dictionary-encoded Layout".
--- Nodes and buffers stand in preorder over the fields.
+-- The arrays of a batch, one for each column: Arrow Columnar Format, "RecordBatch message" and "Dictionary-encoded
+-- Layout". Nodes and buffers are in preorder over the fields.
 use Rattle.std.specs.Prelude.{ℤ, List, Option, None, Some}
 use Rattle.values.specs.Datum.{Datum}
 use Rattle.values.specs.Rose.{Rose, node, Roses, none, more, kids_of}

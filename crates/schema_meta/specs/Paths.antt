@@ -41,7 +41,7 @@ abbrev pub Leads : List ℕ → Vector → Vector → Type 0
 Leads [] v w = v ≡ w
 Leads (i ∷ p) v w = (i < v.count) × ((u : Vector) × (child_at v i ≡ Some u) × Leads p u w)
 
--- The fault stands at the end of a path through less than `depth` fields.
+-- The fault is found at the end of a path through less than `depth` fields.
 pub record FaultBelow (depth : ℕ) (v : Vector) (c : StreamFault) : Type 0 where
   pub path : List ℕ
   pub end : Vector
@@ -60,7 +60,7 @@ pub record IsDeeper (depth : ℕ) (v : Vector) : Type 0 where
   pub some : 0 < end.count
 
 -- The faults of the columns: those by paths, too many fields by their counts or by their depth, and where all fields
--- are known a slot that is too large, and dictionaries of one id with different types.
+-- are known a null weight that is too large, and dictionaries of one id with different types.
 pub data FaultOfColumns (v : Vector) (c : StreamFault) : Type 0 where
   by_path : FaultBelow max_depth v c → FaultOfColumns v c
   by_depth : IsDeeper max_depth v → fault.TooManyFields ≡ c → FaultOfColumns v c
@@ -76,7 +76,7 @@ pub data FaultOfSchema (t : Table) (c : StreamFault) : Type 0 where
   in_fields : FailsWith (readable (vector_of t fbs.fields)) c → FaultOfSchema t c
   in_columns : (v : Vector) → vector_of t fbs.fields ≡ Some (Some v) → FaultOfColumns v c → FaultOfSchema t c
 
--- A fault is in the schema's reading exactly where it stands by a path.
+-- A fault is in the schema's reading exactly where it is found by a path.
 abbrev pub FoundByPaths : Type 0
 FoundByPaths = (t : Table) (c : StreamFault) → FailsWith (schema_of t) c → FaultOfSchema t c
 

@@ -23,8 +23,8 @@ abbrev pub HaveLength : ℕ → Roses ArrayData → Type 0
 HaveLength n none = Unit {0}
 HaveLength n (more t ts) = (len_of t ≡ n) × HaveLength n ts
 
--- The arrays' buffers lie in the body and are long enough, there is a slot a row, and the layouts are those of the
--- fields.
+-- The arrays' buffers lie in the body and are long enough, there is one slot for each row, and the layouts are those of
+-- the fields.
 abbrev pub PlaceLaw : Type 0
 PlaceLaw =
     (values : ℤ → List Datum) (fields : List (Rose Entry)) (body : List ℕ) (head : BatchHead)
@@ -51,7 +51,7 @@ SameArraysLaw =
     → ((id : ℤ) → values id ≡ others id)
     → arrays_of values fields head ≡ arrays_of others fields head
 
--- The array of a dictionary batch lies in the body and has a slot a value.
+-- The array of a dictionary batch lies in the body and has one slot for each value.
 abbrev pub ValuesLaw : Type 0
 ValuesLaw =
     (s : ColType) (body : List ℕ) (head : BatchHead) → Fits (value_layouts s) (length body) head

@@ -29,12 +29,12 @@ rows_from columns i (suc n) = row_at columns i ∷ rows_from columns (i + 1) n
 abbrev pub rows_in : ℕ → List (List Datum) → List (List Datum)
 rows_in n columns = rows_from columns 0 n
 
--- the rows of a batch of these fields, whose dictionaries have these values, or the faults of the body stage that stand
--- in its body
+-- the rows of a batch of these fields, whose dictionaries have these values, or the faults of its body, of the body
+-- stage
 unfoldable pub rows_of : (ℤ → List Datum) → List (Rose Entry) → BatchHead → List ℕ → Reading (List (List Datum))
 rows_of values fields head body = mapped (rows_in head.rows) (columns_in body (arrays_of values fields head))
 
--- the values that a dictionary batch brings, or the faults of the body stage that stand in its body
+-- the values of a dictionary batch, or the faults of its body, of the body stage
 unfoldable pub values_of : List (Rose Entry) → DictionaryHeader → List ℕ → Reading (List Datum)
 values_of fields d body =
     must fault.UnknownDictionary (value_type fields d.id) >>= λ s. column_of body (values_array s d.batch)

@@ -1,4 +1,4 @@
--- Apache Arrow Schema.fbs, table Schema: what it means, and the faults that stand in it.
+-- Apache Arrow Schema.fbs, table Schema: what it means, and its faults.
 use Rattle.std.specs.Prelude.{pos, List, nat_le}
 use Rattle.std.specs.Ordering.{int_eq}
 use Rattle.flatbuf.specs.Layout.{Table, Vector, vector_of}
@@ -19,7 +19,7 @@ unfoldable pub endianness_of : Table → Reading (Unit {0})
 endianness_of t =
     short_of t fbs.endianness (pos 0) >>= λ e. needs fault.BigEndian (int_eq e (pos fbs.little_endian))
 
--- The slots of fields, and whether ids clash, are checked where all types are known.
+-- The null weights of fields, and whether ids clash, are checked where all types are known.
 unfoldable pub validated_fields : List (Rose Entry) → Reading (List (Rose Entry))
 validated_fields fields =
     both second (needs fault.BadType (null_weights_fit (layouts_of fields)))

@@ -12,7 +12,7 @@ use Rattle.schema_meta.specs.SchemaTree.{AreColumns, schema_metadata}
 use Rattle.schema_meta.specs.Stage.{Known}
 use Rattle.schema_meta.specs.Message.{meta_of, brings_schema}
 
--- a column as it is read: it may hold nulls
+-- a column as it is read: it is nullable
 abbrev mutual
   pub stored_field : Rose NamedType → Rose Entry
   stored_field (node f kids) =
@@ -40,8 +40,8 @@ coded_fields coded fs = coded_from coded 0 fs
 abbrev pub NoneCoded : Type 0
 NoneCoded = (fs : List (Rose NamedType)) → coded_fields [] fs ≡ stored_fields fs
 
--- The columns of a logical schema, which a stream can have: each field has the children that its type wants, and they
--- are neither too deep nor too wide.
+-- The columns of a logical schema, which a stream can have: each field has the children that its type requires, and
+-- they are neither too deep nor too wide.
 pub record AreNamed (fields : List (Rose NamedType)) : Type 0 where
   pub logical : AreLogicalColumns fields
   pub layouts : AreLayouts (trees_of (kids_of fields))

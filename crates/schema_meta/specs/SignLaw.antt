@@ -73,8 +73,8 @@ pub record AreOffsets (o : OffsetWidth) (offsets : List ℕ) (n limit : ℕ) : T
   pub rising : (i : ℕ) → i < n → signed_offset o offsets i ≤ℤ signed_offset o offsets (i + 1)
   pub within : (i : ℕ) → i ≤ n → signed_offset o offsets i ≤ℤ pos limit
 
--- Where the bytes have room for the offsets of some slots, no fault stands in them exactly where these are
--- `AreOffsets`, and otherwise 24 does.
+-- Where the bytes can hold the offsets of some slots, they have no fault exactly where these are `AreOffsets`, and the
+-- fault 24 otherwise.
 abbrev pub SignedArrays : Type 0
 SignedArrays =
     (o : OffsetWidth) (offsets : List ℕ) (n limit : ℕ) → ((k : ℕ) → slice_index offsets k < 256) → 0 < n

@@ -1,4 +1,4 @@
--- What holds of each message that a framer hands on, so that a reader of its body need not check the header again.
+-- What holds of each message that a framer returns, so that a reader of its body need not check the header again.
 use Rattle.std.specs.Prelude.{◌≡◌, ℕ, ◌+◌, ◌≤◌, List, length, Option, None, Some, All, IsSome, IsSomeAnd, true}
 use Rattle.values.specs.Limits.{max_batch_length, max_node_length}
 use Rattle.values.specs.Rose.{Rose, Roses, roses_size}
@@ -40,7 +40,7 @@ IsFitting schema (header.Dictionary d) body = IsSomeAnd schema (λ fields. FitsV
 IsFitting schema (header.Batch b) body = IsSomeAnd schema (λ fields. Fits (slot_layouts_of fields) body b)
 IsFitting schema header.End body = IsSome schema
 
--- the schema that is known once a message is there
+-- the schema that is known once a message is read
 abbrev pub schema_after : Option (List (Rose Entry)) → Option (List (Rose Entry)) → Option (List (Rose Entry))
 schema_after before None = before
 schema_after before (Some fields) = Some fields

@@ -6,14 +6,14 @@ use Rattle.schema_meta.specs.Entry.{Entry}
 use Rattle.schema_meta.specs.declared.header.Header.{Header}
 use Rattle.schema_meta.specs.declared.header.Header.TheVariants as header
 
--- the schema that was declared for the stream, if any, the one that came, once it has, and how many values each
--- dictionary has that a batch came for
+-- the schema that was declared for the stream, if any, the one that was read, if it was, and how many values each
+-- dictionary has that had a batch
 pub record Known : Type 0 where
   pub declared : Option (List (Rose NamedType))
   pub schema : Option (List (Rose Entry))
   pub counts : List (ℤ × ℕ)
 
--- the header, the length of the body, and the schema that the message brings
+-- the header, the length of the body, and the schema in the message
 pub record Meta : Type 0 where
   pub header : Header
   pub body : ℕ

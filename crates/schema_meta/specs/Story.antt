@@ -1,4 +1,4 @@
--- The reading of a whole stream: Arrow Columnar Format, "IPC Streaming Format". Message by message, each in what is
+-- The reading of a whole stream: Arrow Columnar Format, "IPC Streaming Format". Message by message, each with what is
 -- known after those before it.
 use Rattle.std.specs.Prelude.{
   ℕ,
@@ -33,8 +33,7 @@ use Rattle.schema_meta.specs.Sound.{after}
 use Rattle.schema_meta.specs.Framing.{first}
 use Rattle.schema_meta.specs.Rows.{rows_of, values_of}
 
--- the meaning of a stream: the schema that came, the rows of its batches, and then its end, or the faults at which it
--- breaks
+-- the meaning of a stream: its schema, the rows of its batches, and then its end, or the faults at which it breaks
 pub record Story : Type 0 where
   pub schema : Option (List (Rose Entry))
   pub rows : List (List Datum)
@@ -52,7 +51,7 @@ abbrev pub with_schema : Option (List (Rose Entry)) → Story → Story
 with_schema None s = s
 with_schema (Some fields) s = record { schema = Some fields; rows = s.rows; end = s.end }
 
--- The input may end between two messages where a schema came.
+-- The input may end between two messages after a schema.
 abbrev pub at_input_end : Option (List (Rose Entry)) → Reading (Unit {0})
 at_input_end None = Err (one fault.NoSchema)
 at_input_end (Some fields) = Ok tt
@@ -90,7 +89,7 @@ after_message next known ds bytes w =
     (drop (end_of w) bytes)
     w.meta.header
 
--- the first message, if it is there and no fault stands in it, and what follows
+-- the first message, if it is whole and has no fault, and what follows
 unfoldable pub story_step :
     (Known → List DictionaryBatch → List ℕ → Story) → Known → List DictionaryBatch → List ℕ → Reading (Option Whole)
     → Story

@@ -1,5 +1,5 @@
 -- How many fields there are at all levels, by the counts of their vectors: also where the entries can't be read. Below
--- a field whose kind can't be read or isn't taken nothing is read, and so nothing is counted.
+-- a field whose kind can't be read or isn't supported nothing is read, and so nothing is counted.
 use Rattle.std.specs.Prelude.{ℕ, zero, suc, ◌+◌, Option, None, Some}
 use Rattle.flatbuf.specs.Layout.{Vector}
 use Rattle.schema_meta.specs.Fields.{child_at}

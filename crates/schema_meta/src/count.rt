@@ -1,5 +1,5 @@
-//! Counts fields before any is read. Elements of a vector may share a table, so that few bytes mean very many fields:
-//! counting stops as soon as they are too many.
+//! Counts fields before any is read. Elements of a vector may share a table, so that few bytes can describe very many
+//! fields: counting stops as soon as they are too many.
 ghost use Rattle.std.specs.Prelude.{◌≡◌, ◌+◌, ◌<◌, MatchOption};
 ghost use Rattle.schema_meta.specs.Totals.{total, total_at};
 

@@ -3,7 +3,7 @@
 use array_layout::{BufferRange, FieldNode};
 use std::marker::Model;
 
-/// The kind of a message's header: Message.fbs, union `MessageHeader`. Its other kinds are not taken.
+/// The kind of a message's header: Message.fbs, union `MessageHeader`. Its other kinds are not supported.
 #[derive(Clone, Copy, Debug, PartialEq, Eq)]
 pub enum MessageKind {
     Schema,

@@ -24,15 +24,15 @@ ghost use Rattle.schema_meta.specs.SignLaw.{
   SignedSize,
 };
 
-/// A fault stands in a schema's reading exactly where it stands at the end of a path of slots from the
-/// schema's table down, each path read by itself; too many fields stand by their counts or their depth.
+/// A schema's reading has a fault exactly where the fault is found at the end of a path of slots from the schema's
+/// table down, each path read by itself; too many fields are found by their counts or their depth.
 pub fn path_law()
     ensures found { FoundByPaths }
     ensures stands { FaultsByPaths }
 {}
 
 /// Fields that are read are at most 1,024 at all levels, nested to 16 levels, with short names, types within their
-/// bounds, the children that each layout wants, slots within the limit, and no two dictionaries of one id and of
+/// bounds, the children that each layout requires, slots within the limit, and no two dictionaries of one id and of
 /// different types. Their logical fields can be written, and are read back.
 pub fn fields_law()
     ensures read { FieldsLaw }
@@ -50,10 +50,10 @@ pub fn schema_law()
     ensures none { NoneCoded }
 {}
 
-/// The definitions read sizes, lengths, places and offsets as numbers without a sign, though the format has them
+/// The definitions read sizes, lengths, positions and offsets as numbers without a sign, though the format has them
 /// signed. Each of their comparisons holds exactly where the signed numbers compare so and none of them is negative.
-/// `arrays` says so of all offsets of an array, of either width: 24 stands in them exactly where one is negative, is
-/// below the one before it, or is above the number of bytes or of slots that it may point to.
+/// `arrays` says so of all offsets of an array, of either width: they have the fault 24 exactly where one is negative,
+/// is below the one before it, or is above the number of bytes or of slots that it may point to.
 pub fn sign_law()
     ensures length { SignedLength }
     ensures bound { SignedBound }
@@ -77,10 +77,10 @@ pub fn logical_law()
     ensures row_weights { NarrowRowWeighs }
 {}
 
-/// The arrays of a batch whose header fits its schema lie in the body, are long enough, have a slot a row, and are of
+/// The arrays of a batch whose header fits its schema lie in the body, are long enough, have one slot for each row, and
 /// the layouts of their fields. The values of their dictionaries are of the fields' types where those of the ids are,
-/// and they depend on nothing else of the dictionaries. The array of a dictionary batch lies in the body, has a slot a
-/// value, and is of the layout of the values' type.
+/// and they depend on nothing else of the dictionaries. The array of a dictionary batch lies in the body, has one slot
+/// for each value, and the layout of the values' type.
 pub fn place_law()
     ensures placed { PlaceLaw }
     ensures dictionary { TypedArraysLaw }
@@ -95,7 +95,7 @@ pub fn clash_law()
     ensures types { TypeLaw }
 {}
 
-/// Fields without dictionaries, as logical ones are, lie in memory as their values do.
+/// The slots of fields without dictionaries, as logical ones are, have the layouts of their values.
 pub fn plain_law()
     ensures slots { PlainSlots }
     ensures arrays { PlainArrays }

@@ -1,13 +1,13 @@
-//! The Schema message: what its table means, and which faults stand in it.
+//! The Schema message: what its table means, and which faults it may have.
 //!
-//! `specs/Schema.antt` has the definition that `read_schema` is proved against; it stands on `Fields` (a field with its
-//! children), `Types` (the types that are taken) and `Totals` (the count of fields), `Encoding` (the dictionary of a
-//! field) and `Dictionaries` (those of all fields). `Entry` is what contracts see of a field, `Logical` its
-//! name and the type of its values.
+//! `specs/Schema.antt` has the definition that `read_schema` is proved against; it uses `Fields` (a field with its
+//! children), `Types` (the types that are supported) and `Totals` (the count of fields), `Encoding` (the dictionary of
+//! a field) and `Dictionaries` (those of all fields). `Entry` is what contracts see of a field, `Logical` its name and
+//! the type of its values.
 //!
-//! The headers of messages are here too, with their slots and numbers (`message_fbs`), the placing of a batch's arrays
-//! (`place_array`), the definitions that the crates above read messages and whole streams by, and what is written of a
-//! schema.
+//! The headers of messages are here too, with their slots and numbers (`message_fbs`), the arrays of a batch with the
+//! places of their buffers (`place_array`), the definitions that the crates above read messages and whole streams by,
+//! and what is written of a schema.
 #![tactic(auto, unfolding(field_types::specs::Reads::bool_of, field_types::specs::Kinds::kind_of, field_types::specs::Types::type_of, field_types::specs::Reads::short_of, crate::specs::Encoding::id_of, crate::specs::Encoding::index_type_of, crate::specs::Encoding::dense_of, crate::specs::Encoding::encoding_of, crate::specs::Encoding::field_encoding_of, crate::specs::Dictionaries::value_type, crate::specs::Dictionaries::are_consistent, crate::specs::Fields::name_of, crate::specs::Fields::children_of, crate::specs::Fields::label_of, crate::specs::Fields::content_of, crate::specs::Fields::field_of, crate::specs::Fields::entry_by, crate::specs::Totals::total_at, crate::specs::Schema::endianness_of, crate::specs::Schema::columns_of, crate::specs::Schema::schema_of))]
 
 mod count;

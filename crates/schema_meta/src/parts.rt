@@ -1,4 +1,4 @@
-//! Places the arrays of a batch in its body: Arrow Columnar Format, "RecordBatch message".
+//! Finds the buffers of a batch's arrays in its body: Arrow Columnar Format, "RecordBatch message".
 
 ghost use Rattle.std.specs.Prelude.{◌≡◌, ◌+◌, ◌≤◌, IfOk, length};
 ghost use Rattle.values.specs.Rose.{kids_of, rose_size, roses_size};
@@ -92,8 +92,8 @@ fn place_all(
     Ok(arrays)
 }
 
-/// The array of a column of a batch, with all below it, and with the values that their dictionaries have now. The cursor
-/// moves past their nodes and buffers.
+/// The array of a column of a batch, with all below it, and with the values that their dictionaries have now. The
+/// cursor moves past their nodes and buffers.
 pub fn place_array(
     alloc: Global,
     field: &Field,

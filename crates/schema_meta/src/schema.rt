@@ -34,9 +34,9 @@ impl StreamSchema {
 
 /// Reads a schema from its table (Apache Arrow Schema.fbs, table Schema).
 ///
-/// The error is a fault that stands in the table, any one where there are several: `BadTable`, `BadName`, `BigEndian`,
-/// `UnsupportedType`, `BadType`, `TooManyFields` or `DictionaryClash`. Where none stands only `Memory` is an error.
-/// Under a type of a kind that isn't taken nothing else of the type is read.
+/// The error is a fault of the table, any one where there are several: `BadTable`, `BadName`, `BigEndian`,
+/// `UnsupportedType`, `BadType`, `TooManyFields` or `DictionaryClash`. Where there is none only `Memory` is an error.
+/// Under a type of an unsupported kind nothing else of the type is read.
 pub fn read_schema(alloc: Global, schema: &TableRef) -> Result<StreamSchema, StreamFault>
     ensures reading { Answers (λ s. s.fields.items) result (schema_of schema.now) }
 

@@ -1,4 +1,4 @@
-//! The numbers of field nodes and buffers that a schema demands of its batches.
+//! The numbers of field nodes and buffers that a schema requires of its batches.
 
 ghost use Rattle.std.specs.Prelude.{◌≡◌, ◌*◌, ◌≤◌};
 ghost use Rattle.values.specs.Limits.{max_fields};

@@ -73,7 +73,7 @@ fn encoding_table(alloc: Global, id: usize) -> Result<Builder, AllocError>
     Ok(table)
 }
 
-/// Adds the dictionary of this id to a field's table, or the absence of one.
+/// Adds the dictionary of this id to a field's table, or none.
 fn add_dictionary(
     alloc: Global,
     table: &mut Builder,

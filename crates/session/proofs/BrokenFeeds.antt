@@ -105,7 +105,7 @@ finish-breaks : (s : FeedState) (f : StreamFault) → is_broken (after_finish s 
 unfolding after_finish
 finish-breaks s f = refl
 
--- what a step does to the feed k, which stood so
+-- the effect of a step on feed k, which was in this state
 record Moves (conf : Config) (st : Step) (re : Reply) (t : State) (k : ℕ) (c : Channel) : Type 0 where
   next : Channel
   there : slice_get t.channels k ≡ Some next
@@ -261,7 +261,7 @@ module _ (conf : Config) (s t : State) (k : ℕ) (c : Channel) (here : slice_get
           (elsewhere (place_in conf name.now) s.past h.channel e.1 h.leads)
     ]
 
-  -- no other step bears on feeds
+  -- no other step concerns feeds
   other-moves : (st : Step) (re : Reply) → (AsksNow conf k st → ⊥) → t.channels ≡ s.channels → Moves conf st re t k c
   other-moves st re never same = record {
     next = c;
@@ -281,7 +281,7 @@ module _ (conf : Config) (s t : State) (k : ℕ) (c : Channel) (here : slice_get
       other-moves (step.Write name n) (reply.Write answer) (λ e. e) (ap (λ x. x.channels) h.1)
   step-moves _ _ sinks ls h = elim h [ ]
 
--- what a run does to the feed k, which stood so
+-- the effect of a run on feed k, which was in this state
 record Leads (conf : Config) (steps : List Step) (replies : List Reply) (new : State) (k : ℕ)
     (c : Channel) : Type 0 where
   next : Channel

@@ -1,4 +1,4 @@
--- Feeds in memory and the channels that they show, place by place.
+-- Feeds in memory and the channels that they represent, index by index.
 use Rattle.std.proofs.Common.{
   ◌≡◌,
   ℕ,
@@ -33,7 +33,7 @@ each_none tables (l ∷ ls) [] k h past = absurd h
 each_none tables (l ∷ ls) (c ∷ cs) zero h past = absurd (omega (arith, past))
 each_none tables (l ∷ ls) (c ∷ cs) (suc k) h past = each_none tables ls cs k h.1 (omega (arith, past))
 
--- the channel that a feed shows
+-- the channel that a feed represents
 pub each_get :
     (tables : List Table) (ls : List Link) (cs : List Channel) (k : ℕ) (l : Link) → ShowsEach tables ls cs → k < length
     ls

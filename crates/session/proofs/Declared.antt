@@ -73,7 +73,7 @@ both_true false b e = absurd (cc)
 named_alike : (a b : NamedType) → a.name ≡ b.name → a.col_type ≡ b.col_type → a ≡ b
 named_alike a b n t = λ i. record { name = n i; col_type = t i }
 
--- fields that are told to be the same are
+-- fields that the test finds the same are the same
 mutual
   same_field : (f g : Rose NamedType) → is_same f g ≡ true → f ≡ g
   same_field (node a ks) (node b ls) e =
@@ -136,7 +136,7 @@ new_agrees known t fs e =
     let q = bind_Ok (schema_of t) (expected known.declared) p.1 p.3 in
     subst (λ (xs : List (Rose Entry)). Agrees known.declared (Some xs)) p.4 (expected_agrees known.declared q.0 p.1 q.2)
 
--- what is known once a message is there agrees where it did before
+-- what is known once a message is read agrees where it did before
 abbrev StillAgrees : Known → Meta → Type 0
 StillAgrees known m = Agrees known.declared known.schema → Agrees known.declared (schema_after known.schema m.schema)
 

@@ -1,4 +1,4 @@
--- What the joined bytes of a feed tell, piece by piece.
+-- What the joined bytes of a feed mean, piece by piece.
 use Rattle.std.proofs.Common.{
   ◌≡◌,
   ℕ,
@@ -67,7 +67,7 @@ module _ (laws : FeedLaws) where
   pub tells-none : (s : FeedState) → transcript s [] ≡ no_events (Ok s)
   tells-none s = laws.none s
 
-  -- A piece without an event is told with what comes after it.
+  -- A piece without an event is read with what comes after it.
   pub tells-partial : (s : FeedState) (x : ℕ) (p q : List ℕ) (u : ℕ) → gives s (x ∷ p) ≡ Ok (given u None)
       → transcript s ((x ∷ p) ++ q) ≡ transcript (after_push s (x ∷ p) (Ok (given u None))) q
   tells-partial s x p q u is =
@@ -76,7 +76,7 @@ module _ (laws : FeedLaws) where
       laws.push s (x ∷ p) q (given u None) is
       ∙ ap (λ ys. transcript (after_push s (x ∷ p) (Ok (given u None))) (ys ++ q)) none
 
-  -- A whole message is told first, and then what is after it.
+  -- A whole message is read first, and then what comes after it.
   pub tells-whole : (s : FeedState) (x : ℕ) (p q : List ℕ) (u : ℕ) (e : Event) → gives s (x ∷ p) ≡ Ok (given u (Some e))
       → transcript s ((x ∷ p) ++ q) ≡ led_by (Some e)
       (transcript (after_push s (x ∷ p) (Ok (given u (Some e)))) (drop u ((x ∷ p) ++ q)))
@@ -86,13 +86,13 @@ module _ (laws : FeedLaws) where
       ∙ ap (λ ys. led_by (Some e) (transcript (after_push s (x ∷ p) (Ok (given u (Some e)))) ys))
       (drop-front u (x ∷ p) q less.1)
 
-  -- Where a fault stands, nothing more is told.
+  -- After a fault nothing more is read.
   pub tells-fault : (s : FeedState) (x : ℕ) (p q : List ℕ) (fs : Faults) → gives s (x ∷ p) ≡ Err fs
       → transcript s ((x ∷ p) ++ q) ≡ no_events (Err fs)
   tells-fault s x p q fs is =
       let some : 0 < length (x ∷ p) = omega arith in laws.refusal s (x ∷ p) q fs some is
 
-  -- A feed that is broken tells nothing.
+  -- A feed that is broken gives nothing.
   pub tells-broken : (s : FeedState) (q : List ℕ) → is_broken s.condition ≡ true → (transcript s q).events ≡ []
   tells-broken s [] is = ap (λ t. t.events) (laws.none s)
   tells-broken s (y ∷ q) is =

@@ -1,4 +1,4 @@
--- The last of a list that is longer than what is kept.
+-- The last items of a list that is longer than the limit.
 use Rattle.std.proofs.Common.{
   ◌≡◌,
   ℕ,

@@ -25,7 +25,7 @@ use Rattle.std.specs.Str.{bytes_eq}
 use Rattle.std.proofs.lemmas.List.{drop_all}
 use Rattle.session.specs.Names.{place_of}
 
--- so many were passed
+-- n were skipped
 abbrev pub Passed : {X : Type 0} → (X → List ℕ) → List X → List ℕ → ℕ → Type 0
 Passed f xs name i = place_of name (map f xs) ≡ i + place_of name (map f (drop i xs))
 

@@ -242,7 +242,7 @@ opened_right conf stores right empty =
 pub opened_none : (conf : Config) (stores : List Store) → stores ≡ empty_stores conf → rows_at (rows_in stores) 0 ≡ []
 opened_none conf stores empty = ap (λ ss. rows_at (rows_in ss) 0) empty
 
--- what a feed or a view of a configuration names is there
+-- what a feed or a view of a configuration names exists
 pub feed_there :
     (conf : Config) (i : ℕ) (plan : FeedConfig) (role : Role) → IsConfig conf → i < length conf.feeds
     → plan ≡ get_or conf.feeds i plan → role ≡ plan.role → table_of role < length (tables_of conf)

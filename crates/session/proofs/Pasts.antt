@@ -1,4 +1,4 @@
--- Rows and undo records that hold what edits come to, before and after an edit.
+-- Rows and undo records that hold the effect of edits, before and after an edit.
 use Rattle.std.proofs.Common.{
   ◌≡◌,
   ℕ,
@@ -98,7 +98,7 @@ front_is : {X : Type 0} (xs : List X) (x : X) → slice_get xs 0 ≡ Some x → 
 front_is [] x e = absurd (cc)
 front_is (y ∷ ys) x e = cc
 
--- the way back is open
+-- the records can be undone
 pub can_undo :
     (tables : List Table) (rows : Rows) (rs : List UndoRecord) (r : UndoRecord) (past : Past) → slice_get rs 0 ≡ Some r
     → ShowsPast tables rows rs past → CanUndo tables r rows
@@ -107,7 +107,7 @@ can_undo tables rows rs r past front shown =
     subst (λ (xs : List UndoRecord). HoldsBack tables rows xs past.edits) (front_is rs r front) shown.holds in
     can_held tables rows r (drop 1 rs) past.edits whole
 
--- and leads to the edits before the last
+-- and lead to the edits before the last
 pub undo_shown :
     (tables : List Table) (old new : Rows) (rs : List UndoRecord) (r : UndoRecord) (past : Past) → slice_get rs 0 ≡
     Some r
@@ -135,7 +135,7 @@ undo_shown tables old new rs r past front is shown = by_depth past.depth refl wh
         (record { holds = rest; depth = omega (arith, e, shown.depth, many) }),
   )
 
--- where memory is refused, nothing is taken back
+-- where memory is refused, nothing is reverted
 pub undo_refused :
     (tables : List Table) (old new : Rows) (rs : List UndoRecord) (r : UndoRecord) (past : Past) → slice_get rs 0 ≡
     Some r
@@ -154,7 +154,7 @@ undo_refused tables old new rs r past front same shown = by_depth past.depth ref
   by_depth zero e = absurd (omega (arith, e, shown.depth, many))
   by_depth (suc d) e = (past, (refl, refl), rest)
 
--- an edit that is refused, and one that is made
+-- an edit that is refused, and one that is applied
 
 pub contents_there : (rows : Rows) (n : ℕ) → n < length rows → contents_at (world_of rows) n ≡ contents_of (rows_at
     rows n)

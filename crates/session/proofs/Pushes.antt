@@ -1,4 +1,4 @@
--- What a push comes to, by what the feed gave.
+-- The outcome of a push, by what the feed gave.
 use Rattle.std.proofs.Common.{
   ◌≡◌,
   ℕ,
@@ -81,7 +81,7 @@ use Rattle.session.specs.declared.link.Link.{Link}
 use Rattle.session.specs.declared.undo.UndoRecord.{UndoRecord}
 use Rattle.session.proofs.Typed.{batch_alike}
 
--- a piece that isn't empty comes to a feed that isn't broken
+-- a piece that isn't empty is pushed to a feed that isn't broken
 gets_by :
     (tables : List Table) (past after : Past) (c d : Channel) (b : Bool) (piece : List ℕ) (answer : Result Came Fault)
     → b ≡ false → 0 < length piece
@@ -100,7 +100,7 @@ unfolding after_push
 declared_after s piece (Ok g) = refl
 declared_after s piece (Err f) = refl
 
--- what it gives settles the rest
+-- what it gives decides the rest
 pub push_shown :
     (tables : List Table) (past after : Past) (c : Channel) (l : Link) (piece : List ℕ) (gave : Result Given
     StreamFault)
@@ -179,7 +179,7 @@ past_kept : (past : Past) (o : Option Edit) (f : EditFault) → past_by past o (
 past_kept past None f = refl
 past_kept past (Some e) f = refl
 
--- A message comes, and what it asks for is done or refused.
+-- A message is complete, and its edit is applied or refused.
 module _ (tables : List Table) (past : Past) (c : Channel) (l : Link) (piece : List ℕ) (fed : Fed) (event : FeedEvent)
     (old slots : Rows) (before records : List UndoRecord) where
   abbrev this : Option Edit

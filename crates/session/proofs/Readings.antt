@@ -73,7 +73,7 @@ parted conf s ks (x ∷ xs) (y ∷ ys) st r later answers new last same run =
       rest = p.rest;
     }
 
--- bytes that went out whole
+-- bytes that were put whole
 gained_whole :
     (old new : Sunk) (count : ℕ) (whole : List ℕ) → Writes old new (Ok count) whole → Appends old.taken new.taken whole
 gained_whole old new count whole writes =

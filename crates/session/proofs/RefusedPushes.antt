@@ -61,7 +61,7 @@ use Rattle.session.specs.declared.calls.Event.{Event}
 use Rattle.session.specs.declared.calls.Fault.{Fault}
 use Rattle.session.specs.declared.calls.Pushed.{Pushed}
 
--- an edit that is refused isn't made
+-- an edit that is refused isn't applied
 edit_refused : (past : Past) (used : ℕ) (kind : Event) (e : Edit) (o : Option Unfit) (f : Fault)
     → Err f ≡ edit_answer used kind o → edited past e o ≡ past
 edit_refused past used kind e None f h = absurd (cc)

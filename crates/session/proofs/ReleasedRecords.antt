@@ -1,4 +1,4 @@
--- Undo records of which the oldest is given up: the rows can go that it alone could bring back.
+-- Undo records of which the oldest is dropped: the rows that it alone could bring back can be released.
 use Rattle.std.proofs.Common.{
   ◌≡◌,
   ◌⊎◌,
@@ -97,7 +97,7 @@ twice_at [] k f g = refl
 twice_at (x ∷ xs) zero f g = refl
 twice_at (x ∷ xs) (suc k) f g = ap (λ ys. x ∷ ys) (twice_at xs k f g)
 
--- what the other tables, and the live rows of this one, come to
+-- what the other tables, and the live rows of this one, become
 mapped_at :
     {X : Type 0} (h : List Slot → X) (rows : Rows) (k : ℕ) (f : List Slot → List Slot)
     → h (f (rows_at rows k)) ≡ h (rows_at rows k) → map h (at_table k f rows) ≡ map h rows
@@ -114,7 +114,7 @@ numbers_emptied : (rows : Rows) (k n : ℕ) → IsOff (rows_at rows k) n
 numbers_emptied rows k n off =
     mapped_at numbered rows k (λ slots. emptied slots n) (numbered_emptied (rows_at rows k) 0 n off)
 
--- One row that isn't live goes, and no record brings it back: the records lead back as before.
+-- One row that isn't live is released, and no record brings it back: the records lead back as before.
 
 off_before : (rows : Rows) (r : UndoRecord) (k n : ℕ) → k < length rows
     → (r.table ≡ k → Spares n (restores r.change)) → IsOff (rows_at rows k) n → IsOff (rows_at (before r rows) k) n
@@ -160,7 +160,7 @@ holds_emptied tables rows (r ∷ rs) (e ∷ es) k n below off spared holds =
           (off_before rows r k n below spared.0 off) spared.1 holds.2),
     )
 
--- Several go.
+-- Several are released.
 
 pub goes_on : (rows : Rows) (k n : ℕ) (ns : List ℕ) (rs : List UndoRecord) → k < length rows → Goes k ns rows rs
     → Goes k ns (emptied_at k n rows) rs

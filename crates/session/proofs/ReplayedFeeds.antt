@@ -1,4 +1,4 @@
--- How a feed stands while a run is replayed, and which causes it answers.
+-- The states of feeds while a run is replayed, and the causes that they answer.
 use Rattle.std.proofs.Common.{◌≡◌, ◌⊎◌, inl, inr, ℕ, zero, suc, ◌<◌, Bool, true, false, Bor, Option, None, Some, Result, Ok, Err, List, [], ◌∷◌, ◌++◌, length, drop, refl, ap, sym, subst, ◌∙◌, arith, append-nil, append_assoc}
 use Rattle.std.specs.Prelude.{◌==◌, slice_get, slice_set}
 use Rattle.std.proofs.lemmas.Bool.{eqb-false, eqb-true}
@@ -158,11 +158,11 @@ pub appends-none : (a : Option (List ℕ)) → Appends a a []
 appends-none None = tt
 appends-none (Some us) = sym (append-nil us)
 
--- the place of a feed by its name
+-- the index of a feed by its name
 abbrev pub place : Config → Bor (List ℕ) → ℕ
 place conf name = place_in conf name.now
 
--- the state after a push to the feed k, which stood so
+-- the state after a push to feed k, which was in this state
 abbrev pub after_given : Config → State → ℕ → Channel → List ℕ → Result Given StreamFault → State
 after_given conf s k c piece gave =
     moved s k (push_past (tables_of conf) c.role s.past gave) (push_channel c piece gave)
@@ -172,14 +172,15 @@ abbrev pub Heir : Reading FeedState → FeedState → List ℕ → Type 0
 Heir end fed bytes = ((f : StreamFault) → MayBreak (transcript fed bytes).end f → MayBreak end f) ⊎
     (is_broken fed.condition ≡ true)
 
--- How a feed stands: it is told on, or it is broken with bytes left, or all its bytes were taken without a fault.
+-- The state of a feed: it goes on, or it is broken with bytes remaining, or all its bytes were consumed without a
+-- fault.
 pub data Stand (end : Reading FeedState) (fed : FeedState) (bytes : List ℕ) : Type 0 where
   going : (transcript fed bytes).end ≡ end → Stand end fed bytes
   stuck : is_broken fed.condition ≡ true → 0 < length bytes → Stand end fed bytes
   over : (s : FeedState) → end ≡ Ok s → bytes ≡ [] → (is_broken fed.condition ≡ true) ⊎
       ((f : StreamFault) → MayBreak end f → ⊥) → Stand end fed bytes
 
--- the feeds stand so that these messages are still to come, of what is left to be offered
+-- the feeds are in states in which these messages are still to come, of what remains to be offered
 abbrev pub Follows : (ℕ → Role) → (ℕ → Reading FeedState) → (ℕ → List Message) → (ℕ → List ℕ) → List Channel → Type 0
 Follows roles ends messages streams channels =
     (k : ℕ) (c : Channel) → slice_get channels k ≡ Some c
@@ -239,7 +240,7 @@ follows-same roles ends messages streams left channels same follows j d is = (
   subst (λ bs. Stand (ends j) d.fed bs) (sym (same j)) (follows j d is).3,
 )
 
--- where a st leads, as the replay has it
+-- where a step leads, as the replay has it
 pub record Goes (conf : Config) (ends : ℕ → Reading FeedState) (st : Step) (re : Reply) (messages : ℕ → List Message)
     (streams bytes : ℕ → List ℕ) (before : List Sunk) (s t : State) (ls : List Sunk) : Type 0 where
   pub messages_left : ℕ → List Message
@@ -416,7 +417,7 @@ pub undo-nothing : (past : Past) → past.depth ≡ 0 → undone past ≡ past
 unfolding undone
 undo-nothing past none = ap (λ d. undone_by d past) none
 
--- a message says that it was heard
+-- a completed message was offered to a feed that accepts bytes
 pub event-heard : (tables : List Table) (past : Past) (used : ℕ) (kind : Kind) (e : Option Edit) (claim : Type 0)
     → IfAnswered (message_answer tables past used kind e) claim → claim
 event-heard tables past used kind None claim h = h

@@ -1,4 +1,4 @@
--- A run is replayed by its order and what its feeds tell.
+-- A run is replayed from its order and from what its feeds' bytes mean.
 use Rattle.std.proofs.Common.{◌≡◌, ◌⊎◌, inl, inr, ℕ, suc, true, Option, None, Some, Ok, Err, List, [], ◌∷◌, refl, ap, sym, subst, ◌∙◌, arith}
 use Rattle.std.specs.Prelude.{All, slice_get}
 use Rattle.std.specs.Option.{option_map}

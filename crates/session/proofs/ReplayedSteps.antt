@@ -77,7 +77,7 @@ module _ (laws : FeedLaws) (conf : Config) (ends : ℕ → Reading FeedState) (m
       by_stand (stuck broken some) = absurd (true-false (is_broken c.fed.condition) broken whole)
       by_stand (over d e none g) = absurd (none-there b (bs ++ begins.0) (sym none ∙ begins.1))
 
-    -- a fault stood
+    -- a fault was found
     push-faulty : (f : StreamFault) → IsOther (cause_named f) → Gives c.fed (b ∷ bs) (Err f) → BeginsWith (b ∷ bs)
         (streams (place conf name))
         → answer ≡ Err (refused (cause_named f)) → t ≡ after_given conf s (place conf name) c (b ∷ bs) (Err f)
@@ -357,7 +357,7 @@ module _ (laws : FeedLaws) (conf : Config) (ends : ℕ → Reading FeedState) (m
         by_channel (Some c) there h = by_piece c there piece.now refl
             (is_broken c.fed.condition) refl h.past h.channel h.pushes h.leads
 
-  -- a step of which the order says nothing, and which leaves the past
+  -- a step that adds nothing to the order, and leaves the past
   finish-goes : (name : Bor (List ℕ)) (answer : Result (Unit {0}) Fault) → IfAnswered answer
       (streams (place conf name) ≡ [])
       → FinishTo s (place conf name) (slice_get s.channels (place conf name)) answer t → ls ≡ sinks → Goes conf ends

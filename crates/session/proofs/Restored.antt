@@ -1,4 +1,4 @@
--- Changes of a table of which a row is gone that they don't bring back.
+-- Changes of a table of which a row is released that they don't bring back.
 use Rattle.std.proofs.Common.{◌≡◌, ℕ, ◌-◌, List, ap, sym, subst, ◌∙◌}
 use Rattle.std.specs.List.{range_with_len}
 use Rattle.view_lang.specs.Config.{Table}
@@ -33,7 +33,7 @@ use Rattle.row_keys.specs.TableChanges.{CanGoBack, back, restores}
 use Rattle.row_keys.specs.declared.table_change.TableChange.{TableChange}
 use Rattle.row_keys.specs.declared.table_change.TableChange.TheVariants.{Appended, Put, Retracted}
 
--- A change that doesn't bring the row back can go back where the row is gone,
+-- A change that doesn't bring the row back can be reverted where the row is released,
 pub can_go_emptied : (t : Table) (c : TableChange) (slots : List Slot) (n : ℕ) → Spares n (restores c) → IsOff slots n
     → CanGoBack t c slots → CanGoBack t c (emptied slots n)
 can_go_emptied t (Appended k) slots n spares off can = can_take_emptied k slots n can
@@ -64,7 +64,7 @@ off_back (Retracted ns) slots n spares off = off_put_back ns.items slots n spare
 off_back (Put k replaced) slots n spares off =
     off_put_back replaced.items (reverted k slots) n spares (off_reverted k slots n off)
 
--- Those aren't live that it can bring back.
+-- The rows that it can bring back aren't live.
 pub restored_out : (t : Table) (c : TableChange) (slots : List Slot) → CanGoBack t c slots → AllOut (restores c) slots
 unfolding CanPutBack
 restored_out t (Appended k) slots can = tt
@@ -72,7 +72,7 @@ restored_out t (Retracted ns) slots can = all_out t ns.items slots can.0
 restored_out t (Put k replaced) slots can =
     all_untaken k replaced.items slots (all_out t replaced.items (reverted k slots) can.1.0)
 
--- What isn't live once it is taken back it doesn't bring back, and that wasn't live before.
+-- What isn't live once it is reverted it doesn't bring back, and that wasn't live before.
 pub out_changed : (t : Table) (c : TableChange) (slots : List Slot) (n : ℕ) → CanGoBack t c slots
     → IsOut (back c slots) n → IsOut slots n × Spares n (restores c)
 unfolding CanPutBack

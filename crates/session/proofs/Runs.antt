@@ -1,4 +1,4 @@
--- The steps of a run, one by one and in turn.
+-- The steps of a run, one by one.
 use Rattle.std.proofs.Common.{
   ◌≡◌,
   ℕ,

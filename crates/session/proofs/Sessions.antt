@@ -123,7 +123,7 @@ main_moved p q same some =
     let equal = ap length same in
     omega (arith, one, two, equal, some)
 
--- The names of the side tables and what is declared of the feeds stay.
+-- The names of the side tables and the declarations of the feeds stay.
 abbrev pub Declares : SessionParts → SessionParts → Type 0
 Declares p q = (q.sides ≡ p.sides) × (q.feeds ≡ p.feeds)
 
@@ -144,7 +144,7 @@ links_moved :
     → roles_of p.links ≡ declared_roles p.feeds → roles_of q.links ≡ declared_roles q.feeds
 links_moved p q same roles linked = roles ∙ linked ∙ sym (ap declared_roles same.1)
 
--- a link in the place of one with its role
+-- a link replaced by one with its role
 roles_set :
     (links : List Link) (k : ℕ) (l m : Link) → l ≡ get_or links k l → k < length links → m.role ≡ l.role
     → roles_of (slice_set links k m) ≡ roles_of links
@@ -166,7 +166,7 @@ finish_role :
 finish_role c next true answer h = ap (λ (x : Channel). x.role) h.1
 finish_role c next false answer h = ap (λ (x : Channel). x.role) h.channel
 
--- A step whose state is told at a feed's place.
+-- A step that changes the state at a feed's index.
 abbrev AtPlace : (ℕ → Option Channel → State → Type 0) → List (List ℕ) → List ℕ → State → State → Type 0
 AtPlace claim names name s t = claim (place_of name names) (slice_get s.channels (place_of name names)) t
 
@@ -210,7 +210,7 @@ finish_unknown p name k e at beyond saturated s shown =
       shown,
     )
 
--- what is shown with another channel at that place
+-- what is represented with another channel at that index
 channels_moved :
     (p q : SessionParts) (cs : List Channel) (k : ℕ) (m : Link) (d : Channel) → (tables_in q.tables.stores) ≡ (tables_in
     p.tables.stores)
@@ -230,7 +230,7 @@ past_moved :
 past_moved t u slots records past same shown = subst (λ (x : List Table). ShowsPast x slots records past) (sym same)
     shown
 
--- the feed of that name shows a channel
+-- the feed of that name represents a channel
 pub link_shown :
     (p : SessionParts) (k : ℕ) (l : Link) → (s : State) × Shows p s → k < length p.links → l ≡ get_or p.links k l
     → (c : Channel) × ShowsChannel (tables_in p.tables.stores) l c
@@ -360,7 +360,7 @@ live_shown p s x n shown is many =
     ∙ ap (λ (w : World). length (contents_at w 0).live)
     (rows_shown p s shown ∙ ap (λ ts. world ts s.past.edits) (sym (tables_told p shown.main)))
 
--- nothing is asked of what wasn't written whole
+-- nothing is claimed of what wasn't written whole
 pub refused_read :
     (tables : List Table) (v : View) (w : World) (answer : Result ℕ ViewFault) (f : ViewFault) → answer ≡ Err f
     → IsReadIfWhole tables v w answer
@@ -409,7 +409,7 @@ write_known p q name k v old new answer at below is writes read table slots link
       },
     )
 
--- a view that is there, and its columns
+-- a view that exists, and its columns
 
 pub view_there :
     (tables : List Table) (views : List View) (schemas : List Schema) (k : ℕ) (v : View)

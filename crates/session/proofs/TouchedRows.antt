@@ -1,4 +1,4 @@
--- The rows that the newest change touches, when the oldest record is given up.
+-- The rows that the newest change touches, when the oldest record is dropped.
 use Rattle.std.proofs.Common.{
   ◌≡◌,
   ℕ,
@@ -87,7 +87,7 @@ spares_both : (n : ℕ) (ms ks : List ℕ) → Spares n ms → Spares n ks → S
 spares_both n [] ks first second = second
 spares_both n (m ∷ ms) ks first second = (first.0, spares_both n ms ks first.1 second)
 
--- The keys that a change names are what they were, when another row is gone.
+-- The keys that a change names are what they were, when another row is released.
 keys_emptied :
     (t : Table) (c : TableChange) (slots : List Slot) (n : ℕ) → Spares n (restores c) → IsOff slots n
     → CanGoBack t c slots → named_keys t c (emptied slots n) ≡ named_keys t c slots

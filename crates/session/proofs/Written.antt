@@ -108,7 +108,7 @@ pub view_indexed :
 view_indexed views given k v same below is =
     at_position given k v below (subst (λ (vs : List View). v ≡ get_or vs k v) same is)
 
--- the stream that they are
+-- the stream of the rows
 pub stream_is :
     (tables : List Table) (rows : Rows) (v : View) (fields : List (Rose NamedType)) (coded : List ℕ)
     (shown : List (List Datum)) → 0 < length rows → fields ≡ view_columns tables v → coded ≡ v.coded_outputs

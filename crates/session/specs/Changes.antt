@@ -1,4 +1,4 @@
--- What the functions that a push or an undo is made of do to the rows and the undo records.
+-- What the functions of which a push or an undo consists do to the rows and the undo records.
 use Rattle.std.specs.Prelude.{◌≡◌, ℕ, List, Option, None, Some, Result, Ok, Err}
 use Rattle.arrays.specs.Checked.{CheckedColumn}
 use Rattle.feed.specs.Columns.{cells_in}
@@ -27,7 +27,7 @@ use Rattle.session.specs.declared.undo.UndoRecord.{UndoRecord}
 abbrev pub edit_by : Role → List CheckedColumn → ℕ → Edit
 edit_by role columns rows = edit_of role (rows_in rows (cells_in columns))
 
--- An edit is accepted where no cause stands.
+-- An edit is accepted where no cause applies.
 abbrev pub Answers : {X : Type 0} → Option Unfit → Result X EditFault → Type 0
 Answers cause (Ok x) = cause ≡ None
 Answers cause (Err f) = Refuses cause f
@@ -36,14 +36,14 @@ abbrev pub past_after : {X : Type 0} → Past → Edit → Result X EditFault �
 past_after past e (Ok x) = accepted past e
 past_after past e (Err f) = past
 
--- What the rows and the records show before an edit, and after it.
+-- The pasts that the rows and the records represent before an edit, and after it.
 abbrev pub Edits : List Table → Edit → Rows → List UndoRecord → Rows → List UndoRecord → Result (Unit {0}) EditFault
     → Type 0
 Edits tables e old records new next answer =
     (past : Past) → ShowsPast tables old records past
     → Answers (unfit_in tables past e) answer × ShowsPast tables new next (past_after past e answer)
 
--- What the rows and the records show before an undo, and after it.
+-- The pasts that the rows and the records represent before an undo, and after it.
 abbrev pub UndoesTo : List Table → Rows → List UndoRecord → Result (Unit {0}) Fault → Rows → List UndoRecord → Type 0
 UndoesTo tables old records answer new left =
     (past : Past) → ShowsPast tables old records past
@@ -75,7 +75,8 @@ Takes tables role m old records new next answer =
     → Responds m (unfit_by tables past (edit_in role m)) answer
     × ShowsPast tables new next (past_by past (edit_in role m) answer)
 
--- A push is one of the definition, from any past and channel that are shown, and shows where it leads.
+-- A push is one of the definition, from any past and channel that are represented, and what it leaves represents those
+-- to which it leads.
 pub record Pushed (tables : List Table) (past : Past) (c : Channel) (piece : List ℕ) (answer : Result Came Fault)
     (link : Link) (rows : Rows) (records : List UndoRecord) : Type 0 where
   pub after : Past

@@ -1,6 +1,6 @@
 -- What a run leaves doesn't depend on how feeds are cut: it is a function of the order in which messages complete, with
--- the undos and writes between, and of what the joined bytes of each feed tell. Feeds are named by their places here.
--- docs/ARCHITECTURE.md has a picture of it.
+-- the undos and writes between, and of what the joined bytes of each feed mean. Feeds are numbered here in the order of
+-- their declarations. docs/ARCHITECTURE.md has a picture of it.
 use Rattle.std.specs.Prelude.{
   ◌≡◌,
   ◌⊎◌,
@@ -63,18 +63,18 @@ use Rattle.session.specs.declared.calls.Step.TheVariants as step
 use Rattle.session.specs.declared.calls.ViewFault.{ViewFault}
 use Rattle.session.specs.declared.calls.ViewFault.TheVariants as view_fault
 
--- What bytes tell
+-- What bytes mean
 
 abbrev pub transcript_of : Config → Option FeedConfig → List ℕ → Transcript
 transcript_of conf None bytes = no_events (Ok (fresh None))
 transcript_of conf (Some plan) bytes = transcript (fresh (Some (feed_columns (tables_of conf) plan.role))) bytes
 
--- what the stream of a feed tells, from its beginning: its messages, and then the faults that stand, or where the feed
--- is once all is consumed
+-- what the stream of a feed means, from its beginning: its messages, and then its faults, or the feed's state once all
+-- is consumed
 abbrev pub transcript_at : Config → (ℕ → List ℕ) → ℕ → Transcript
 transcript_at conf streams k = transcript_of conf (slice_get conf.feeds k) (streams k)
 
--- A feed whose bytes tell this may break by this fault: by a push, or by its finish where all its bytes are consumed.
+-- A feed whose bytes end so may break by this fault: by a push, or by its finish where all its bytes are consumed.
 abbrev pub MayBreak : Reading FeedState → StreamFault → Type 0
 MayBreak (Ok s) f = Finishes s (Err f)
 MayBreak (Err fs) f = IsAmong fs f
@@ -124,7 +124,7 @@ abbrev pub used_of : Result Pushed Fault → ℕ
 used_of (Ok p) = p.used
 used_of (Err f) = f.used
 
--- what is left to be offered: what was used isn't offered again
+-- what remains to be offered: what was used isn't offered again
 abbrev pub left_after : Config → (ℕ → List ℕ) → Step → Reply → ℕ → List ℕ
 left_after conf streams (step.Push name piece) (reply.Push answer) =
     put_at (place_in conf name.now) (drop (used_of answer) (streams (place_in conf name.now))) streams
@@ -133,7 +133,7 @@ left_after conf streams _ _ = streams
 abbrev pub BeginsWith : List ℕ → List ℕ → Type 0
 BeginsWith piece bytes = (rest : List ℕ) × (bytes ≡ piece ++ rest)
 
--- A feed that is broken or isn't declared takes no bytes, so nothing is asked of what is offered to it.
+-- A feed that is broken or isn't declared consumes no bytes, so nothing is asked of what is offered to it.
 abbrev pub is_unheard : Cause → Bool
 is_unheard cause.FeedBroken = true
 is_unheard cause.UnknownFeed = true
@@ -150,7 +150,7 @@ abbrev pub IfAnswered : {X : Type 0} → Result X Fault → Type 0 → Type 0
 IfAnswered (Ok x) claim = claim
 IfAnswered (Err f) claim = IfHeard f.cause claim
 
--- A piece is a beginning of what is left to be offered, and a feed is finished once nothing is.
+-- A piece is a prefix of what remains to be offered, and a feed is finished once nothing remains.
 abbrev pub OffersNow : Config → (ℕ → List ℕ) → Step → Reply → Type 0
 OffersNow conf streams (step.Push name piece) (reply.Push answer) =
     IfAnswered answer (BeginsWith piece.now (streams (place_in conf name.now)))
@@ -220,7 +220,7 @@ next_message next conf k [] messages left = next messages left
 next_message next conf k (m ∷ ms) messages left =
     next (put_at k ms messages) (record { past = past_with conf (role_at conf k) left.past m; bytes = left.bytes })
 
--- what is left where the feeds bring these messages in this order
+-- what is left where the feeds complete these messages in this order
 unfoldable pub replay : Config → List Mark → (ℕ → List Message) → Left → Left
 replay conf [] messages left = left
 replay conf (of_feed k ∷ marks) messages left = next_message (replay conf marks) conf k (messages k) messages left
@@ -254,7 +254,7 @@ replayed conf streams marks = replay conf marks (λ k. (transcript_at conf strea
 
 -- The laws
 
--- What a run leaves is a function of its order and of what the joined bytes of the feeds tell.
+-- What a run leaves is a function of its order and of what the joined bytes of the feeds mean.
 abbrev pub RunIsReplayed : Type 0
 RunIsReplayed =
     (conf : Config) (streams : ℕ → List ℕ) (steps : List Step) (replies : List Reply) (sinks : List Sunk) (new : State)
@@ -269,7 +269,7 @@ pub record SameLeft (new other : State) (sinks after sinks_too after_too : List 
   pub leaves_too : Leaves left other sinks_too after_too
 
 -- Two runs that offer each feed the same stream, with one order: they accept the same edits and write the same bytes.
--- The beginnings of a run are runs, so they do at each mark of that order.
+-- Each prefix of a run is a run, so they do at each mark of that order.
 abbrev pub SameRuns : Type 0
 SameRuns =
     (conf : Config) (streams : ℕ → List ℕ) (steps others : List Step) (replies answers : List Reply)
@@ -294,7 +294,7 @@ Broke conf k f [] replies = ⊥
 Broke conf k f (s ∷ ss) [] = ⊥
 Broke conf k f (s ∷ ss) (r ∷ rs) = Breaks conf k f s r ⊎ Broke conf k f ss rs
 
--- The fault by which a feed breaks is one of a set that its joined bytes tell.
+-- The fault by which a feed breaks is one of those of its joined bytes.
 abbrev pub FaultsAreReported : Type 0
 FaultsAreReported =
     (conf : Config) (streams : ℕ → List ℕ) (steps : List Step) (replies : List Reply) (sinks : List Sunk) (new : State)
@@ -303,7 +303,7 @@ FaultsAreReported =
     → (k : ℕ) (f : StreamFault) → Broke conf k f steps replies
     → MayBreak (transcript_at conf streams k).end f
 
--- what was never taken
+-- what was never consumed
 unfoldable pub left_at_end : Config → (ℕ → List ℕ) → List Step → List Reply → ℕ → List ℕ
 left_at_end conf streams [] replies = streams
 left_at_end conf streams (s ∷ ss) [] = streams
@@ -313,7 +313,7 @@ left_at_end conf streams (s ∷ ss) (r ∷ rs) = left_at_end conf (left_after co
 abbrev pub IsOfferedWhole : List ℕ → Channel → Type 0
 IsOfferedWhole left c = (left ≡ []) ⊎ (is_broken c.fed.condition ≡ true)
 
--- A fault that the joined bytes tell breaks the feed, however they were cut.
+-- A fault of the joined bytes breaks the feed, however they were cut.
 abbrev pub FaultsBreak : Type 0
 FaultsBreak =
     (conf : Config) (streams : ℕ → List ℕ) (steps : List Step) (replies : List Reply) (sinks : List Sunk) (new : State)
@@ -357,7 +357,7 @@ BrokeByPush conf k f [] replies = ⊥
 BrokeByPush conf k f (s ∷ ss) [] = ⊥
 BrokeByPush conf k f (s ∷ ss) (r ∷ rs) = BreaksByPush conf k f s r ⊎ BrokeByPush conf k f ss rs
 
--- A push breaks a feed only where its joined bytes tell a fault, by one of those.
+-- A push breaks a feed only where its joined bytes have a fault, by one of those.
 abbrev pub PushFaultsAreReported : Type 0
 PushFaultsAreReported =
     (conf : Config) (streams : ℕ → List ℕ) (steps : List Step) (replies : List Reply) (sinks : List Sunk) (new : State)

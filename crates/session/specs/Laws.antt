@@ -6,7 +6,7 @@ use Rattle.session.specs.Steps.{PushStep, State, place_in}
 use Rattle.session.specs.declared.calls.Fault.{Fault}
 use Rattle.session.specs.declared.calls.Pushed.{Pushed}
 
--- Whatever a push is refused for, the accepted edits and the depth stay.
+-- Whatever a push is refused for, the accepted edits, and how many can be undone, stay.
 abbrev pub RefusalsKeepEdits : Type 0
 RefusalsKeepEdits =
     (conf : Config) (s t : State) (name piece : List ℕ) (f : Fault) → PushStep conf s name piece (Err f) t

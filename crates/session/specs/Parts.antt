@@ -16,8 +16,8 @@ session_with p =
       records = p.records.items;
     }
 
--- They are those of a session: it shows some state, and each view is stale, or what is kept of it is made of the rows
--- that are live in the stores.
+-- They are those of a session: it represents some state, and each view is stale, or what is stored of it is computed
+-- from the live rows of the stores.
 pub record AreParts (p : Taken) : Type 0 where
   pub tables : AreLiveParts p.tables
   pub few : length p.records.items ≤ max_undo_depth

@@ -1,4 +1,4 @@
--- Rows that nothing can bring back any more: when the oldest record is given up.
+-- Rows that nothing can bring back any more: when the oldest record is dropped.
 use Rattle.std.specs.Prelude.{◌≡◌, ◌<◌, List, [], ◌∷◌, ◌++◌, length, map}
 use Rattle.view_lang.specs.Config.{Table, View}
 use Rattle.view_lang.specs.Edits.{Edit}
@@ -11,8 +11,8 @@ use Rattle.upkeep.specs.Touched.{touched}
 use Rattle.session.specs.Shows.{HoldsBack}
 use Rattle.session.specs.declared.undo.UndoRecord.{UndoRecord}
 
--- Where the oldest record is given up, the rows can go that it alone could bring back: the other records lead back as
--- before, to the same contents of all tables.
+-- Where the oldest record is dropped, the rows that it alone could bring back can be released: the other records lead
+-- back as before, to the same contents of all tables.
 abbrev pub EvictedGo : Type 0
 EvictedGo =
     (tables : List Table) (rows : Rows) (records : List UndoRecord) (oldest : UndoRecord) (edits : List Edit)
@@ -34,7 +34,7 @@ OldestIsOut =
     → HoldsBack tables rows (records ++ oldest ∷ []) edits
     → (oldest.table < length rows) × AllOut (restores oldest.change) (rows_at rows oldest.table)
 
--- a record's change touches as much of some rows as of others
+-- a record's change touches as many of some rows as of others
 abbrev pub TouchesAlike : List Table → List View → UndoRecord → Rows → Rows → Type 0
 TouchesAlike tables views r rows others =
     touched tables views rows r.table r.change ≡ touched tables views others r.table r.change

@@ -1,7 +1,7 @@
 -- A configuration of two tables of two columns of whole numbers each, `k` and `v`, of which `k` is the key. A feed
--- `add` appends to the main table, `put` puts rows to the side table `s`, and `drop` takes some away. The view `t` has
--- both columns of the main table, `keys` its key, and `named` its key with what the side table says of it. And some
--- states.
+-- `add` appends to the main table, `put` puts rows to the side table `s`, and `drop` retracts some. The view `t` has
+-- both columns of the main table, `keys` its key, and `named` its key with the cells that are looked up in the side
+-- table. And some states.
 use Rattle.std.specs.Prelude.{ℕ, List, [], ◌∷◌, Option, None, Some, pos}
 use Rattle.values.specs.Datum.{null, whole}
 use Rattle.values.specs.Limits.{max_main_rows}

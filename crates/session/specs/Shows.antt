@@ -1,4 +1,4 @@
--- Which states a session in memory shows.
+-- Which states a session in memory represents.
 use Rattle.std.specs.Prelude.{◌≡◌, ℕ, ◌<◌, All, List, [], ◌∷◌, Some, drop, length, map, refl, slice_set}
 use Rattle.std.specs.Coded.{Coded, code_by, coded×, coded_ℕ, coded_list}
 use Rattle.feed.specs.Shown.{Shows as FeedShows}
@@ -23,7 +23,7 @@ use Rattle.session.specs.declared.calls.Step.TheVariants as step
 use Rattle.session.specs.declared.link.Link.{Link}
 use Rattle.session.specs.declared.undo.UndoRecord.{UndoRecord}
 
--- the rows once an accepted edit is taken back
+-- the rows once an accepted edit is undone
 abbrev pub before : UndoRecord → Rows → Rows
 before r rows = slice_set rows r.table (back r.change (rows_at rows r.table))
 
@@ -36,7 +36,7 @@ CanUndo tables r rows =
 pub record AreWorld (tables : List Table) (rows : Rows) (edits : List Edit) : Type 0 where
   pub same : world_of rows ≡ world tables edits
 
--- The same, and going back along the records they hold what is left of the edits, one less at each.
+-- The same, and going back along the records the rows hold what remains of the edits, one less at each.
 abbrev pub HoldsBack : List Table → Rows → List UndoRecord → List Edit → Type 0
 HoldsBack tables rows [] edits = AreWorld tables rows edits
 HoldsBack tables rows (r ∷ rs) [] = ⊥
@@ -44,7 +44,7 @@ HoldsBack tables rows (r ∷ rs) (e ∷ es) =
     AreWorld tables rows (e ∷ es) × CanUndo tables r rows × HoldsBack tables (before r rows) rs es
 
 -- Whatever edits are held going back from the old rows along the records are held going back from the new ones along
--- those that are left.
+-- those that remain.
 abbrev pub StillHolds : List Table → Rows → List UndoRecord → Rows → List UndoRecord → Type 0
 StillHolds tables old records new left =
     (edits : List Edit) → HoldsBack tables old records edits → HoldsBack tables new left edits
@@ -54,7 +54,7 @@ pub record ShowsPast (tables : List Table) (rows : Rows) (records : List UndoRec
   pub holds : HoldsBack tables rows records past.edits
   pub depth : past.depth ≡ length records
 
--- A feed of one of the tables shows its channel, of which these columns were declared.
+-- A feed of one of the tables represents its channel, of which these columns were declared.
 pub record ShowsChannel (tables : List Table) (l : Link) (c : Channel) : Type 0 where
   pub role : l.role ≡ c.role
   pub there : table_of c.role < length tables
@@ -67,8 +67,8 @@ ShowsEach tables [] (c ∷ cs) = ⊥
 ShowsEach tables (l ∷ ls) [] = ⊥
 ShowsEach tables (l ∷ ls) (c ∷ cs) = ShowsChannel tables l c × ShowsEach tables ls cs
 
--- What a session is made of: the names of its side tables, what is declared of its feeds, its feeds, its tables and
--- views, and how to take the latest edits back.
+-- The parts of a session: the names of its side tables, the declarations of its feeds, its feeds, its tables and views,
+-- and the undo records of the latest edits.
 pub record SessionParts : Type 0 where
   pub sides : List (List ℕ)
   pub feeds : List FeedConfig
@@ -106,7 +106,7 @@ parts_code =
     (λ p. record { sides = p.0; feeds = p.1.0; links = p.1.1.0; tables = p.1.1.1.0; records = p.1.1.1.1 })
     (λ _. refl)
 
--- A session shows a state. It has a main table, a name for each side table, and for each feed that is declared, in
+-- A session represents a state. It has a main table, a name for each side table, and for each feed that is declared, in
 -- order, a link with its role. It stores neither the edits nor the bytes that came.
 pub record Shows (p : SessionParts) (s : State) : Type 0 where
   pub main : 0 < length p.tables.stores
@@ -123,14 +123,15 @@ abbrev pub AreShown : List Table → List View → List (List (Rose NamedType)) 
 AreShown tables views columns =
     All IsTable tables × All (IsView tables) views × (columns ≡ map (view_columns tables) views)
 
--- What holds of each session: some state is shown, so each feed has its link, and the views are of its tables and have
--- these columns.
+-- What holds of each session: it represents some state, so each feed has its link, and the views are of its tables and
+-- have these columns.
 pub record IsSession (p : SessionParts) (capacity : ℕ) (columns : List (List (Rose NamedType))) : Type 0 where
   pub capacity_is : capacity ≡ max_undo_depth
   pub views : AreShown (tables_in p.tables.stores) p.tables.views columns
   pub some : (s : State) × Shows p s
 
--- A call takes such a step from any state that is shown, and shows where it leads.
+-- From any state that is represented a call takes such a step, and what it leaves represents the state to which that
+-- leads.
 abbrev pub IsStep : SessionParts → (State → State → Type 0) → SessionParts → Type 0
 IsStep old step new = (s : State) → Shows old s → (t : State) × step s t × Shows new t
 

@@ -1,4 +1,4 @@
--- A session as a machine: its states, its steps, what a step may answer, and where it leads.
+-- A session as a state machine: its states, its steps, what a step may answer, and to which state it leads.
 use Rattle.std.specs.Prelude.{
   ◌≡◌,
   ℕ,
@@ -60,7 +60,7 @@ pub record Past : Type 0 where
   pub edits : List Edit
   pub depth : ℕ
 
--- a feed: what its batches do, and where it stands
+-- a feed: what its batches do, and the state of its stream
 pub record Channel : Type 0 where
   pub role : Role
   pub fed : FeedState
@@ -85,11 +85,11 @@ pushed used e = record { used = used; event = e }
 
 -- Edits
 
--- An accepted edit can be undone, and of those before it as many as the limit leaves.
+-- An accepted edit can be undone, and of those before it as many as the limit allows.
 abbrev pub accepted : Past → Edit → Past
 accepted past e = record { edits = e ∷ past.edits; depth = min max_undo_depth (suc past.depth) }
 
--- what an edit makes of the past: it is accepted where no cause stands
+-- the past after an edit, which is accepted where no cause applies
 abbrev pub edited : Past → Edit → Option Unfit → Past
 edited past e None = accepted past e
 edited past e (Some u) = past
@@ -100,7 +100,7 @@ unfit_in tables past e = cause_in tables (world tables past.edits) e
 
 -- Pushes
 
--- A batch is an edit of its feed's role; no other message is one.
+-- The batch of a message is an edit with its feed's role; no other message is one.
 abbrev pub edit_in : Role → Message → Option Edit
 edit_in role (schema fields) = None
 edit_in role (dictionary id delta values) = None
@@ -151,8 +151,8 @@ with_feed c fed = record { role = c.role; fed = fed }
 abbrev pub push_channel : Channel → List ℕ → Result Given StreamFault → Channel
 push_channel c piece gave = with_feed c (after_push c.fed piece gave)
 
--- A piece that isn't empty comes to a feed that isn't broken: it gives what the feed's definition says. After want of
--- memory, nothing is changed; an unfit edit is consumed.
+-- A piece that isn't empty is pushed to a feed that isn't broken: the feed gives what its definition says. After want
+-- of memory, nothing is changed; an unfit edit is consumed.
 pub record Gets (tables : List Table) (past : Past) (c : Channel) (piece : List ℕ) (answer : Result Pushed Fault)
     (next_past : Past) (next : Channel) : Type 0 where
   pub gave : Result Given StreamFault
@@ -172,7 +172,7 @@ abbrev pub Pushes : List Table → Past → Channel → List ℕ → Result Push
 Pushes tables past c piece answer next_past next =
     PushBy tables past c (is_broken c.fed.condition) piece answer next_past next
 
--- with another past, and another channel at that place
+-- with another past, and another channel at that index
 abbrev pub moved : State → ℕ → Past → Channel → State
 moved s k past c = record { past = past; channels = slice_set s.channels k c }
 
@@ -219,7 +219,7 @@ FinishTo s k (Some c) answer new = FinishAt s k c answer new
 
 -- Undo
 
--- The latest edit is taken away, if any can be.
+-- The latest edit is removed, if any can be undone.
 abbrev pub undone_by : ℕ → Past → Past
 undone_by zero past = past
 undone_by (suc d) past = record { edits = drop 1 past.edits; depth = d }
@@ -250,12 +250,12 @@ WriteAnswers old new (Ok n) whole = Writes old new (Ok n) whole
 WriteAnswers old new (Err (view_fault.Write f)) whole = Writes old new (Err f) whole
 WriteAnswers old new (Err view_fault.UnknownView) whole = ⊥
 
--- Read by the format's rules, these bytes are the view's table: no fault stands in them, and their columns and rows are
+-- Read by the format's rules, these bytes are the view's table: they have no fault, and their columns and rows are
 -- those that the view's definition gives from scratch on these tables.
 abbrev pub IsReadAsView : List Table → View → World → List ℕ → Type 0
 IsReadAsView tables view w bytes = Means (story_of bytes) (view_columns tables view) (view_of tables view w)
 
--- So is what went out whole.
+-- The same of what was put, where all of it was.
 abbrev pub IsReadIfWhole : List Table → View → World → Result ℕ ViewFault → Type 0
 IsReadIfWhole tables view w (Ok n) = IsReadAsView tables view w (stream_of tables view w)
 IsReadIfWhole tables view w (Err f) = Unit {0}
@@ -269,7 +269,7 @@ WritesView tables past (Some view) old answer new =
 
 -- Steps
 
--- the place of the feed of that name
+-- the index of the feed of that name
 abbrev pub place_in : Config → List ℕ → ℕ
 place_in conf name = place_of name (map (λ f. f.name) conf.feeds)
 
@@ -296,7 +296,7 @@ pub record WriteTo (conf : Config) (s : State) (sinks : List Sunk) (name : List 
   pub writes : WriteStep conf s name old answer new
   pub result : after ≡ slice_set sinks n new
 
--- what a step may answer, and where it leads
+-- what a step may answer, and to which state it leads
 unfoldable pub Steps : Config → State → List Sunk → Step → Reply → State → List Sunk → Type 0
 Steps conf s sinks (step.Push name piece) (reply.Push answer) new after =
     PushStep conf s name.now piece.now answer new × (after ≡ sinks)

@@ -38,7 +38,7 @@ MessageOpens old (Ok e) records new = EventOpens old e records new
 MessageOpens old (Err (edit_fault.Unfit u)) records new = OpensNone old new
 MessageOpens old (Err edit_fault.Memory) records new = Unit {0}
 
--- What is refused for want of memory may have opened rows; what is refused for another cause has not.
+-- What is refused for want of memory may have opened rows; what is refused for another cause has opened none.
 abbrev pub RefusalOpens : Cause → LiveParts → LiveParts → Type 0
 RefusalOpens cause.Memory old new = Unit {0}
 RefusalOpens _ old new = OpensNone old new

@@ -15,7 +15,7 @@ use feed::{cut_law as push_law, pieces_law};
 
 /// However each feed is cut into pieces, two runs that complete messages in one order, with the same undos and writes
 /// between, accept the same edits and write the same bytes. A feed that breaks in one of them breaks in the other,
-/// where all of its bytes were offered in both; each answers one of the faults that its joined bytes tell.
+/// where all of its bytes were offered in both; each answers one of the faults of its joined bytes.
 pub fn cut_law()
     ensures replay { RunIsReplayed }
     ensures same { SameRuns }

@@ -1,4 +1,4 @@
-//! Makes the edits that record batches are.
+//! Applies the edits of record batches to the tables.
 
 ghost use Rattle.std.specs.Prelude.{◌≡◌, ◌<◌, length};
 ghost use Rattle.feed.specs.Shown.{event_seen};
@@ -23,7 +23,7 @@ use row_keys::EditFault;
 use upkeep::LiveTables;
 use view_lang::Role;
 
-/// Makes the edit that a batch is, and records how to undo it. On an error no row and no record has changed.
+/// Applies the edit of a batch, and records how to undo it. On an error no row and no record has changed.
 fn edit(
     role: Role,
     tables: &mut LiveTables,

@@ -1,9 +1,9 @@
 //! A session: feeds that change tables, edits that can be undone, and views that are written.
 //!
-//! A session is a machine. `specs/Steps.antt` says what each call may answer and where it leads, from the edits that
-//! are accepted and not undone and from the bytes that each feed consumed, none of which it stores. `specs/Shows.antt`
-//! says which states a session in memory shows; each call is a step from any of them, and `Session::run` a run.
-//! `specs/Parts.antt` says of which parts a session is made.
+//! A session is a state machine. `specs/Steps.antt` says what each call may answer and to which state it leads, from
+//! the edits that are accepted and not undone and from the bytes that each feed consumed, none of which it stores.
+//! `specs/Shows.antt` says which states a session in memory represents; each call is a step from any of them, and
+//! `Session::run` a run. `specs/Parts.antt` says of which parts a session consists.
 #![tactic(auto)]
 
 mod calls;

@@ -5,7 +5,7 @@ ghost use Rattle.session.specs.Names.{place_of};
 
 use view_lang::{FeedConfig, View};
 
-/// The place of the feed of that name; where there is none, how many feeds there are.
+/// The index of the feed of that name; where there is none, how many feeds there are.
 #[tactic(auto, using(crate::proofs::Named::naming))]
 pub(crate) fn feed_place(feeds: &[FeedConfig], name: &str) -> usize
     ensures { result ≡ place_of name.now (map (λ f. f.name) feeds.now) }
@@ -18,7 +18,7 @@ pub(crate) fn feed_place(feeds: &[FeedConfig], name: &str) -> usize
     feeds.len()
 }
 
-/// The place of the view of that name; where there is none, how many views there are.
+/// The index of the view of that name; where there is none, how many views there are.
 #[tactic(auto, using(crate::proofs::Named::naming))]
 pub(crate) fn view_place(views: &[View], name: &str) -> usize
     ensures { result ≡ place_of name.now (map (λ v. v.name) views.now) }

@@ -6,8 +6,8 @@ use upkeep::LiveTablesParts;
 use values::Schema;
 use view_lang::FeedConfig;
 
-/// What a `Session` is made of. The stores of its tables alone hold rows: what is kept of the views, and what takes
-/// edits back, name rows of the main table by number.
+/// The parts of a `Session`. The stores of its tables alone hold rows: what is stored of the views, and the undo
+/// records, refer to rows of the main table by number.
 #[derive(Drop)]
 pub struct SessionParts {
     /// The names of the side tables.
@@ -19,6 +19,6 @@ pub struct SessionParts {
     /// The feeds, in the order of their declarations.
     pub links: Vec<Link>,
     pub tables: LiveTablesParts,
-    /// How the latest edits are undone, the newest first: at most `MAX_UNDO_DEPTH`.
+    /// The undo records of the latest edits, the newest first: at most `MAX_UNDO_DEPTH`.
     pub records: Vec<UndoRecord>,
 }

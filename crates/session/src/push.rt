@@ -20,7 +20,7 @@ use schema_meta::logical_law;
 use upkeep::LiveTables;
 use values::Cause;
 
-/// Consumes a piece up to the end of the first message that it completes, or all of it. The edit of a batch is made
+/// Consumes a piece up to the end of the first message that it completes, or all of it. The edit of a batch is applied
 /// where it fits.
 pub(crate) fn push_to(
     link: &mut Link,

@@ -45,7 +45,7 @@ pub(crate) fn make_records(
     Ok(made)
 }
 
-/// Puts a record before the others, and returns the oldest if it is given up: where there were as many as can be undone.
+/// Adds a record as the newest, and returns the oldest if it is dropped: where there were as many as can be undone.
 fn push_record(
     records: &mut HeapCircularBuffer<UndoRecord>,
     newest: UndoRecord,
@@ -56,13 +56,13 @@ fn push_record(
     ensures oldest { IfSome result (λ oldest. newest ∷ records.old.items ≡ records.new.items ++ oldest ∷ []) }
     ensures all { result ≡ None → records.new.items ≡ newest ∷ records.old.items }
 {
-    // No more are kept than there is room for.
+    // No more are stored than there is capacity for.
     let _room = records.capacity();
     records.push_front(newest)
 }
 
-/// Records how the newest edit is undone. Where the oldest record is given up, the rows go that it alone could bring
-/// back. It takes no memory.
+/// Records how the newest edit is undone. Where the oldest record is dropped, the rows that it alone could bring back
+/// are released. It takes no memory.
 pub(crate) fn record_change(
     tables: &mut LiveTables,
     records: &mut HeapCircularBuffer<UndoRecord>,
@@ -82,7 +82,7 @@ pub(crate) fn record_change(
     ensures touched { TouchesAlike (tables_in tables.old.stores) tables.old.views newest
         (rows_in tables.new.stores) (rows_in tables.old.stores) }
 {
-    // It does nothing: the proof takes from it which rows can go.
+    // It does nothing: the proof takes from it which rows can be released.
     release_law();
     if let Some(oldest) = push_record(records, newest) {
         tables.release(oldest.table, &oldest.change);

@@ -124,7 +124,7 @@ fn open_tables(
 
 /// Tables that feeds change, edits of them that can be undone, and views of them that can be written.
 ///
-/// Contracts see its parts, and which states of `specs/Steps.antt` they show.
+/// Contracts see its parts, and which states of `specs/Steps.antt` they represent.
 #[derive(Drop)]
 pub struct Session {
     alloc: Global,
@@ -155,7 +155,7 @@ impl Model for Session {
 }
 
 impl Session {
-    /// Opens a session of a configuration: its tables have no rows, and nothing has come to its feeds.
+    /// Opens a session of a configuration: its tables have no rows, and its feeds have consumed nothing.
     pub fn open(alloc: Global, config: Config) -> Result<Session, AllocError>
         requires { IsConfig config }
         ensures shows { IfOk result (λ s. Shows s (start config)) }
@@ -184,7 +184,7 @@ impl Session {
         })
     }
 
-    /// Takes the session apart. The parts are all that it keeps. If memory is refused, it is lost.
+    /// Takes the session apart. The parts are all that it stores. If memory is refused, the session is lost.
     pub fn into_parts(self) -> Result<SessionParts, AllocError>
         ensures value { IfOk result (λ parts. session_with parts ≡ self) }
         ensures right { IfOk result (λ parts. AreParts parts) }
@@ -210,8 +210,8 @@ impl Session {
         })
     }
 
-    /// Makes the session that has these parts: its tables, feeds and views are as those were. No row is opened, and
-    /// those views are stale that are so in the parts.
+    /// Makes the session that has these parts: its tables, feeds and views are as those were. No row is opened, and a
+    /// view is stale where it is stale in the parts.
     pub fn from_parts(alloc: Global, parts: SessionParts) -> Result<Session, AllocError>
         requires { AreParts parts }
         ensures { IfOk result (λ session. session ≡ session_with parts) }
@@ -238,7 +238,7 @@ impl Session {
     }
 
     /// Consumes a piece of the stream of a feed up to the end of the first message that it completes, or all of it. The
-    /// edit of a record batch is made where it fits; a batch whose edit doesn't fit is consumed all the same.
+    /// edit of a record batch is applied where it fits; a batch whose edit doesn't fit is consumed all the same.
     ///
     /// The error's cause is `UnknownFeed`, `FeedBroken`, a fault of the stream, `NullKey` to `CellTooHeavy` where an
     /// edit doesn't fit, or `Memory`. A fault of the stream breaks its feed, and changes nothing else. After `Memory`
@@ -261,7 +261,7 @@ impl Session {
         )
     }
 
-    /// Ends the input of a feed: `Truncated` inside a message, `NoSchema` where no schema came, `UnknownFeed` or
+    /// Ends the input of a feed: `Truncated` inside a message, `NoSchema` before a schema, `UnknownFeed` or
     /// `FeedBroken`. It takes no memory.
     pub fn finish(&mut self, feed: &str) -> Result<(), Fault>
         ensures step { IsStep self.old (λ s t. FinishStep (config_of self.old) s feed.now result t) self.new }
@@ -276,7 +276,8 @@ impl Session {
     }
 
     /// Undoes the latest accepted edit, of any feed, that isn't undone; the last `MAX_UNDO_DEPTH` can be.
-    /// `NothingToUndo` where there is none. Feeds don't change. After `Memory` no row has changed, but views may be stale.
+    /// `NothingToUndo` where there is none. Feeds don't change. After `Memory` no row has changed, but views may be
+    /// stale.
     pub fn undo(&mut self) -> Result<(), Fault>
         ensures step { IsStep self.old (λ s t. UndoTo s result t) self.new }
         ensures config { config_of self.new ≡ config_of self.old }
@@ -286,7 +287,7 @@ impl Session {
         go_back(&mut self.tables, &mut self.records)
     }
 
-    /// Writes the canonical stream of a view, and returns its length in bytes. On an error the sink took a beginning of
+    /// Writes the canonical stream of a view, and returns its length in bytes. On an error the sink took a prefix of
     /// that stream, whose length is in the error. A stale view is built anew first.
     pub fn write_view<S: Sink>(&mut self, view: &str, sink: &mut S) -> Result<u64, ViewFault>
         ensures step { IsStep self.old
@@ -337,7 +338,7 @@ impl Session {
         self.tables.visits()
     }
 
-    /// Does one step: the call that it names, over the sink of its number.
+    /// Does one step: the call that it names, on the sink of its number.
     pub fn step<S: Sink>(&mut self, step: &Step, sinks: &mut [S]) -> Reply
         requires { IsWithin (length sinks.old) step.now }
         ensures step { IsStep self.old

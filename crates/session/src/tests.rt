@@ -17,7 +17,7 @@ use view_lang::{
     Config, FeedConfig, Lookup, Missing, Output, Outputs, Role, SideTable, Table, View,
 };
 
-/// The Schema message ends at 232, the batch at 496 (its keys stand at 440, 448 and 456), the end mark at 504.
+/// The Schema message ends at 232, the batch at 496 (its keys are at 440, 448 and 456), the end mark at 504.
 const SAMPLE: [u8; 504] = [
     0xFF, 0xFF, 0xFF, 0xFF, 0xE0, 0x00, 0x00, 0x00, 0x18, 0x00, 0x00, 0x00, 0x00, 0x00, 0x00, 0x00,
     0x0C, 0x00, 0x18, 0x00, 0x04, 0x00, 0x06, 0x00, 0x08, 0x00, 0x10, 0x00, 0x00, 0x00, 0x00, 0x00,
@@ -408,7 +408,7 @@ fn drops_and_undoes_it(rt: HostRuntime) -> Result<(), Fail> {
 fn opens_rows_that_edits_touch(rt: HostRuntime) -> Result<(), Fail> {
     let mut session = open(rt.alloc())?;
     push_rows(&mut session, "add", &SAMPLE);
-    // The view that looks rows up opens the three rows. Nothing is kept of the other two, which show each row.
+    // The view that looks rows up opens the three rows. For the other two, which show each row, nothing is stored.
     assert_eq!(rt; session.visits(), 3);
     // Of the keys 3, 4 and 5 one row of the main table refers to the first, in one view.
     push_rows(&mut session, "put", &batch_with(3));

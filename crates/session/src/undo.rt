@@ -14,8 +14,8 @@ use row_keys::TableChange;
 use upkeep::LiveTables;
 use values::Cause;
 
-/// How an accepted edit is undone: the number of its table, and how the table's rows were changed. It holds no rows,
-/// but their numbers.
+/// How an accepted edit is undone: the number of its table, and how the table's rows were changed. It holds the numbers
+/// of rows, but no rows.
 #[derive(Drop)]
 pub struct UndoRecord {
     pub table: usize,

@@ -28,10 +28,10 @@ use upkeep::{JoinedColumns, LiveTables, Shown, StoredColumns, are_many};
 use values::Schema;
 use view_lang::{config_law, rows_law};
 
-/// Rows lie scattered where no more than this lie one after the other in the mean.
+/// Rows count as scattered where runs of consecutive rows have no more than this many rows on average.
 const SHORT_RUNS: usize = 4;
 
-/// Whether so many of all rows of a table, which lie in these runs, are written sooner one by one than run by run.
+/// Whether `count` of `all` rows of a table, which lie in these runs, are written faster one by one than run by run.
 fn are_scattered(runs: usize, count: usize, all: usize) -> bool {
     runs > count / SHORT_RUNS && are_many(count, all)
 }
@@ -129,7 +129,7 @@ fn write_joined<S: Sink>(
     write_locations(alloc, sink, schema, &columns, &rows)
 }
 
-/// Writes the canonical stream of what the view at this place shows, and returns its length in bytes.
+/// Writes the canonical stream of what the view at this index shows, and returns its length in bytes.
 fn write_shown<S: Sink>(
     alloc: Global,
     tables: &LiveTables,

@@ -49,7 +49,7 @@ use Rattle.showing.specs.Tables.{
 }
 use Rattle.showing.proofs.Lists.{drop-step}
 
--- so far written: with what is right for the rest of the line, the whole is right
+-- written so far: with what is right for the rest of the line, the whole is right
 pub record Begun (a b : Option (List ℕ)) (led : ℕ) (bar : List ℕ) (slots : List PaddedCell) (All : List ℕ → Type 0) : Type 0 where
   pub done : List ℕ
   pub wrote : Appends a b done

@@ -134,6 +134,6 @@ mutual
       (both-double (codes ":") (json one f d) (codes ":") (json two f d) refl (json-doubles f d)))
       ∙ ap (λ xs. (json_string two (entry f).name ++ (codes ":" ++ json two f d)) ∷ xs) (members-double fs ds)
 
--- and so it stands between quotes as a field of CSV
+-- and so it is written between quotes as a field of CSV
 pub nested-quoted : (f : Rose Entry) (d : Datum) → quote ∷ (json two f d ++ quote ∷ []) ≡ quoted (json one f d)
 nested-quoted f d = ap (λ x. quote ∷ (x ++ quote ∷ [])) (sym (json-doubles f d))

@@ -82,7 +82,7 @@ pub row-fields-end : (fs : List (Rose Entry)) (cs : List CheckedColumn) (k i : �
     → row_fields fs (drop k cs) i ≡ []
 row-fields-end fs cs k i end = at_drop_all (λ xs. row_fields fs xs i) cs k end ∙ row-fields-without fs i
 
--- what is read of the first, and then of the others
+-- what is read from the first, and then from the others
 pub values-more : (a : Reading Datum) (b : Reading (List Datum)) → IsValid (both cons a b)
     → values_of (both cons a b) ≡ value_of a ∷ values_of b
 values-more (Ok d) (Ok ds) valid = refl

@@ -9,7 +9,7 @@ use Rattle.array_layout.specs.Cells.{cell, len_of, row}
 use Rattle.array_layout.specs.Sound.{IsSound}
 use Rattle.showing.specs.Shown.{AreMembers}
 
--- what is known of the first child, and of those behind it
+-- what is known of the first child, and of those after it
 pub record FirstMember (b : List ℕ) (t : Rose ArrayData) (ts : Roses ArrayData) (i : ℕ) : Type 0 where
   pub sound : IsSound b t
   pub within : i < len_of t

@@ -1,4 +1,4 @@
--- Powers of ten that 128 bits don't hold.
+-- Powers of ten that exceed 128 bits.
 use Rattle.std.proofs.Common.{◌≡◌, ℕ, ◌^◌, ◌/◌, ◌<◌, ◌≤◌, arith, sym}
 use Rattle.std.proofs.Math.Nat.{div-eq_of_lt, pow-le-pow_right}
 

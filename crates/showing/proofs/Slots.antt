@@ -1,4 +1,4 @@
--- What the cell of a slot is read as.
+-- The value as which the cell of a slot is read.
 use Rattle.std.proofs.Common.{◌≡◌, ℕ, List, ◌+◌, ◌<◌, length, Ok, slice_get, sym, subst, ◌∙◌, arith}
 use Rattle.std.specs.Prelude.{Option, None, IfSome, Bool, false, if◌then◌else◌}
 use Rattle.values.specs.Datum.{Datum, null}

@@ -107,7 +107,7 @@ plain-char c other =
     (plain-cond (ltb c 65536) _ _ (plain-cons (224 + c / 4096) _ (high 224 (c / 4096) (omega arith)) third)
     (plain-cons (240 + c / 262144) _ (high 240 (c / 262144) (omega arith)) second)))
 
--- a number that is filled up
+-- a number that is padded
 plain-repeat : (n : ℕ) (t : List ℕ) → Plain t → Plain (repeat n t)
 plain-repeat zero t plain = plain-nil
 plain-repeat (suc n) t plain = plain-append t (repeat n t) plain (plain-repeat n t plain)

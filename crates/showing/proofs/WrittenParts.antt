@@ -1,4 +1,4 @@
--- What is written part by part: what was written so far, with what is left to write, is the whole.
+-- What is written part by part: what was written so far, with what remains to be written, is the whole.
 use Rattle.std.proofs.Common.{◌≡◌, List, ℕ, [], ◌++◌, ap, refl, sym, subst, ◌∙◌, append_assoc, append-nil}
 use Rattle.std.specs.Prelude.{Option, Result, Ok, Err, OnOk}
 use Rattle.std.specs.Io.KnownBytes.{Appends}
@@ -26,7 +26,7 @@ pub leaves-none : (a b : Option (List ℕ)) (left whole : List ℕ) → Leaves a
 leaves-none a b left whole so e =
     subst (Appends a b) (sym (append-nil so.done) ∙ ap (λ t. so.done ++ t) (sym e) ∙ so.is) so.wrote
 
--- one text more, behind what separates it from the one before
+-- one text more, after what separates it from the one before
 pub leaves-item :
     (a b c d : Option (List ℕ)) (left led text rest whole : List ℕ) → Leaves a b left whole → Appends b c led
     → Appends c d text
@@ -36,7 +36,7 @@ leaves-item a b c d left led text rest whole so first second e =
     leaves-less a c d (text ++ rest) text rest whole (leaves-less a b c left led (text ++ rest) whole so first e) second
     refl
 
--- a name and its value behind a colon
+-- a name and its value after a colon
 pub leaves-member :
     (a b c d e f : Option (List ℕ)) (left led name colon value rest whole : List ℕ) → Leaves a b left whole
     → Appends b c led → Appends c d name → Appends d e colon → Appends e f value

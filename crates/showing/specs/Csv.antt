@@ -1,5 +1,5 @@
--- CSV (RFC 4180, section 2): a field with a comma, a quote or a line break stands between quotes, and a quote in it is
--- doubled. An empty text stands between quotes too, since a field without a byte is a null.
+-- CSV (RFC 4180, section 2): a field with a comma, a quote or a line break is written between quotes, and a quote in it
+-- is doubled. So is an empty text, since a field without a byte is a null.
 use Rattle.std.specs.Prelude.{ℕ, Bool, List, [], ◌∷◌, ◌++◌, ◌==◌, ◌||◌, if◌then◌else◌, length, flat_map}
 use Rattle.std.specs.List.{list_any}
 

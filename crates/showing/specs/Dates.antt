@@ -37,9 +37,9 @@ scale_of time.Millisecond = 3
 scale_of time.Microsecond = 6
 scale_of time.Nanosecond = 9
 
--- The Gregorian calendar repeats after 400 years, an era, which have 146,097 days. Years are counted from the first of
--- March on, so that a leap day is the last of its year. By the number of a day in its era, from 0: the year in the era,
--- the day in that year, and the month, from 0 for March.
+-- The Gregorian calendar repeats after 400 years, an era, with 146,097 days. Years are counted from the first of March
+-- on, so that a leap day is the last of its year. By the number of a day in its era, from 0: the year in the era, the
+-- day in that year, and the month, from 0 for March.
 abbrev pub year_in : ℕ → ℕ
 year_in day = (day + day / 36524 - day / 1460 - day / 146096) / 365
 
@@ -63,7 +63,7 @@ abbrev pub dated : Bool → ℕ → ℕ → Date
 dated before year day =
     record { before = before; year = year; month = civil_month day; day = civil_day day }
 
--- so many days after the first of March of the year 0, or before it
+-- the date this many days after the first of March of the year 0, or before it
 abbrev pub date_after : ℕ → Date
 date_after n = dated false (400 * (n / 146097) + civil_year (n % 146097)) (n % 146097)
 
@@ -73,11 +73,12 @@ last_day n = 146096 - (n - 1) % 146097
 abbrev pub date_before : ℕ → Date
 date_before n = dated true (400 * ((n - 1) / 146097 + 1) - civil_year (last_day n)) (last_day n)
 
--- The first of January of 1970 is 719,468 days after the first of March of the year 0. So many days before it:
+-- The first of January of 1970 is 719,468 days after the first of March of the year 0. The date this many days before
+-- it:
 abbrev pub date_back : ℕ → Date
 date_back n = if nat_le n 719468 then date_after (719468 - n) else date_before (n - 719468)
 
--- and so many days after it, or before it where the number is below 0
+-- and the date this many days after it, or before it where the number is below 0
 unfoldable pub civil : ℤ → Date
 civil days = if is_negative days then date_back (unsigned_abs days) else date_after (unsigned_abs days + 719468)
 

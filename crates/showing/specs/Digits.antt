@@ -27,7 +27,7 @@ scaled_text scale n = decimal (n / 10 ^ scale) ++ fraction_text scale n
 abbrev pub decimal_text : ℕ → ℤ → List ℕ
 decimal_text scale z = sign_text z ++ scaled_text scale (unsigned_abs z)
 
--- two hexadecimal digits a byte
+-- two hexadecimal digits for each byte
 abbrev pub hex_byte : ℕ → List ℕ
 hex_byte b = padded_integral (format_spec 32 0 4 2 (2 ^ 64 - 1)) false [] (digits 16 false b)
 

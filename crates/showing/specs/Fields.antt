@@ -1,4 +1,4 @@
--- What a field of a schema is, and the fields below it.
+-- A field of a schema, and the fields below it.
 use Rattle.values.specs.Rose.{Rose, node, Roses}
 use Rattle.schema_meta.specs.Entry.{Entry}
 

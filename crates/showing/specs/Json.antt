@@ -1,4 +1,4 @@
--- A cell as JSON (RFC 8259). It is written with some text for each quote, so that it can stand in a field of CSV, where
+-- A cell as JSON (RFC 8259). It is written with some text for each quote, so that it can be a field of CSV, where
 -- quotes are doubled.
 use Rattle.std.specs.Prelude.{ℕ, ℤ, false, List, [], ◌∷◌, ◌++◌, ◌==◌, ◌-◌, ◌^◌, codes, if◌then◌else◌, flat_map}
 use Rattle.std.specs.Char.{encode_utf8}

@@ -36,7 +36,7 @@ line fields = joined (codes ",") fields ++ codes "\n"
 abbrev pub name_fields : List (Rose Entry) → List (List ℕ)
 name_fields fs = map (λ f. field_text (entry f).name) fs
 
--- the cells of some columns at one place
+-- the cells of some columns at one index
 abbrev pub row_fields : List (Rose Entry) → List CheckedColumn → ℕ → List (List ℕ)
 row_fields [] cs i = []
 row_fields (f ∷ fs) [] i = []

@@ -18,7 +18,7 @@ use Rattle.std.specs.Prelude.{
 }
 use Rattle.showing.specs.Csv.{field_text, is_special, quote, quoted}
 
--- A text that was read, and what stands behind it.
+-- A text that was read, and what comes after it.
 abbrev pub Read : Type 0
 Read = Option (List ℕ × List ℕ)
 
@@ -26,15 +26,15 @@ abbrev pub with_first : ℕ → Read → Read
 with_first b None = None
 with_first b (Some p) = Some (b ∷ p.0, p.1)
 
--- What stands between quotes, behind the first of them: a quote ends it, but two quotes stand for one. `closed` says
--- whether a quote was just read.
+-- The text between quotes, after the first of them: a quote ends it, but two quotes denote one. `closed` says whether a
+-- quote was just read.
 abbrev pub read_quoted : Bool → List ℕ → Read
 read_quoted true [] = Some ([], [])
 read_quoted false [] = None
 read_quoted true (b ∷ bs) = if b == quote then with_first quote (read_quoted false bs) else Some ([], b ∷ bs)
 read_quoted false (b ∷ bs) = if b == quote then read_quoted true bs else with_first b (read_quoted false bs)
 
--- What stands between no quotes: all up to a comma, a quote or a line break.
+-- The text of a field without quotes: all up to a comma, a quote or a line break.
 abbrev pub read_plain : List ℕ → Read
 read_plain [] = Some ([], [])
 read_plain (b ∷ bs) = if is_special b then Some ([], b ∷ bs) else with_first b (read_plain bs)

@@ -1,4 +1,4 @@
--- What a cell that is seen where it lies is read as.
+-- The values as which cells are read that are seen where they lie.
 use Rattle.std.specs.Prelude.{ℕ, ◌+◌, ◌-◌, ◌≤◌, List, [], Ok, Err, get_or}
 use Rattle.values.specs.Datum.{Datum, Items, null, truth, whole, text, bytes, list, structure, items_of}
 use Rattle.values.specs.Reading.{Reading, IsValid, each}
@@ -22,11 +22,11 @@ use Rattle.showing.specs.declared.cell.Cell.TheVariants.{
   HeldStruct,
 }
 
--- what the slots of an array are read as
+-- the values as which the slots of an array are read
 abbrev pub items_read : List ℕ → Rose ArrayData → ℕ → ℕ → Reading Datum
 items_read body array from to = list_of (each (cell body array) from (to - from))
 
--- what slot i of the arrays of a struct is read as
+-- the values as which slot i of the arrays of a struct is read
 abbrev pub members_read : List ℕ → Roses ArrayData → ℕ → Reading Datum
 members_read body arrays i = structure_of (row body arrays i)
 
@@ -41,7 +41,7 @@ shown (Struct s) = members_read s.body.now (kids_of s.arrays.now) s.at
 shown (HeldList vs) = Ok (list (items_of vs.now))
 shown (HeldStruct vs) = Ok (structure (items_of vs.now))
 
--- what can be read
+-- the value of a reading, or null
 abbrev pub value_of : Reading Datum → Datum
 value_of (Ok d) = d
 value_of (Err fs) = null
@@ -60,7 +60,7 @@ items_in s = items_of (values_of (each (cell s.body.now s.array.now) s.from (s.t
 abbrev pub row_items : List ℕ → Roses ArrayData → ℕ → Items
 row_items body arrays i = items_of (values_of (row body arrays i))
 
--- the cell of a column at a place
+-- the cell of a column at an index
 abbrev pub cell_in : CheckedColumn → ℕ → Datum
 cell_in c i = get_or c.cells i null
 
@@ -77,7 +77,7 @@ pub record AreMembers (body : List ℕ) (arrays : Roses ArrayData) (i : ℕ) : T
   pub long : AreLong Structs (i + 1) arrays
   pub valid : IsValid (row body arrays i)
 
--- what the cell is made of can be read
+-- the parts of the cell can be read
 abbrev pub IsReadable : Cell → Type 0
 IsReadable (Listed s) = AreItems s.body.now s.array.now s.from s.to
 IsReadable (Struct s) = AreMembers s.body.now (kids_of s.arrays.now) s.at

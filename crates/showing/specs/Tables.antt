@@ -55,14 +55,14 @@ cell_text f (text t) = visible_text t
 cell_text f (bytes b) = hex_text b
 cell_text f d = json (codes "\"") f d
 
--- numbers and durations stand at the right of their column
+-- numbers and durations are right-aligned
 abbrev pub is_right : ColType → Bool
 is_right (col.Int w s) = true
 is_right (col.Decimal p s) = true
 is_right (col.Duration u) = true
 is_right t = false
 
--- The width of a text is how many characters it has: as many as bytes that begin one.
+-- The width of a text is the number of its characters: of bytes that begin one.
 abbrev pub begins_char : ℕ → Bool
 begins_char b = nat_lt b 0x80 || nat_le 0xC0 b
 
@@ -81,15 +81,15 @@ pub record PaddedCell : Type 0 where
 abbrev pub gap : PaddedCell → ℕ
 gap s = s.width - width_of s.text
 
--- how many spaces stand before a text that fills its column, and behind it where another column follows
+-- how many spaces come before a text that fills its column, and after it where another column follows
 abbrev pub before : Bool → PaddedCell → ℕ
 before fills s = if fills then (if s.at_right then gap s else 0) else 0
 
 abbrev pub behind : Bool → PaddedCell → ℕ
 behind fills s = if fills then (if s.at_right then 0 else gap s) else 0
 
--- The texts of a line, with a bar between each two; `led` spaces and a bar stand before the first. Each is filled up to
--- the width of its column, or stands as it is.
+-- The texts of a line, with a bar between each two; `led` spaces and a bar come before the first. Each is filled up to
+-- the width of its column, or is longer.
 abbrev pub IsLine : ℕ → List ℕ → List PaddedCell → List ℕ → Type 0
 IsLine led bar [] out = out ≡ codes "\n"
 IsLine led bar (s ∷ ss) out =
@@ -98,11 +98,11 @@ IsLine led bar (s ∷ ss) out =
     × (out ≡ spaces led ++ (bar ++ (spaces (before fills s) ++ (s.text ++ rest))))
     × IsLine (behind fills s) (codes " | ") ss rest
 
--- What stands between two known texts: a text that is as it should be.
+-- Between two states of the output a text was written that is as it should be.
 abbrev pub Writes : Option (List ℕ) → Option (List ℕ) → (List ℕ → Type 0) → Type 0
 Writes old new Is = (out : List ℕ) × Is out × Appends old new out
 
--- A text was written in its column, and so many spaces are to stand behind it.
+-- A text was written in its column, and n spaces are to follow it.
 abbrev pub PutsSlot : Option (List ℕ) → Option (List ℕ) → PaddedCell → ℕ → Type 0
 PutsSlot old new s n = (fills : Bool) × Appends old new (spaces (before fills s) ++ s.text) × (n ≡ behind fills s)
 
@@ -122,7 +122,7 @@ abbrev pub name_slots : List ℕ → ℕ → List (Rose Entry) → List PaddedCe
 name_slots widths k [] = []
 name_slots widths k (f ∷ fs) = name_slot (get_or widths k 0) f ∷ name_slots widths (k + 1) fs
 
--- the cells at one place of columns, of which the first is number k of these widths
+-- the cells at one index of columns, of which the first is number k of these widths
 abbrev pub row_slots : List ℕ → ℕ → List (Rose Entry) → List CheckedColumn → ℕ → List PaddedCell
 row_slots widths k [] cs i = []
 row_slots widths k (f ∷ fs) [] i = []
@@ -153,7 +153,7 @@ AreNameWidths [] ws = ws ≡ []
 AreNameWidths (f ∷ fs) [] = ⊥
 AreNameWidths (f ∷ fs) (w ∷ ws) = IsNameWidth f w × AreNameWidths fs ws
 
--- A width is no less than another, and if it is greater, that of a cell.
+-- A width is no less than another, and if it is greater, it is that of a cell.
 abbrev pub IsAsWide : Rose Entry → Datum → ℕ → ℕ → Type 0
 IsAsWide f d w v = (w ≤ v) × ((v ≡ w) ⊎ (v ≡ width_of (cell_text f d)))
 
@@ -165,13 +165,13 @@ measured_rows = 1024
 abbrev pub IsWider : Rose Entry → CheckedColumn → ℕ → ℕ → ℕ → Type 0
 IsWider f c rows w v = (w ≤ v) × ((v ≡ w) ⊎ ((i : ℕ) × (i < rows) × (v ≡ width_of (cell_text f (cell_in c i)))))
 
--- Column number k is, and the others are as they were.
+-- Column number k is wider, and the others are as they were.
 pub record IsWiderAt (k : ℕ) (f : Rose Entry) (c : CheckedColumn) (rows : ℕ) (ws vs : List ℕ) : Type 0 where
   pub count : length vs ≡ length ws
   pub here : IsWider f c rows (get_or ws k 0) (get_or vs k 0)
   pub others : (j : ℕ) → j ≢ k → get_or vs j 0 ≡ get_or ws j 0
 
--- Each column with a field is, and any other is as it was.
+-- Each column with a field is wider, and any other is as it was.
 pub record AreWider (fs : List (Rose Entry)) (cs : List CheckedColumn) (rows : ℕ) (ws vs : List ℕ) : Type 0 where
   pub count : length vs ≡ length ws
   pub shown :

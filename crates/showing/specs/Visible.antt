@@ -7,7 +7,7 @@ use Rattle.std.specs.Str.{chars}
 abbrev pub is_between : ℕ → ℕ → ℕ → Bool
 is_between low high c = nat_le low c && nat_le c high
 
--- control characters, and those that end a line or turn the direction of a text
+-- control characters, and those that end a line or change the direction of a text
 abbrev pub is_hidden : ℕ → Bool
 is_hidden c = nat_le c 0x1f || is_between 0x7f 0x9f c || (c == 0x61c) || is_between 0x200e 0x200f c
     || is_between 0x2028 0x202e c

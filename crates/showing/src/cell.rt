@@ -28,9 +28,9 @@ pub(crate) enum Cell<'a> {
     Binary(&'a [u8]),
     List(Items<'a>),
     Struct(Members<'a>),
-    /// The items of a list that is a value of its own.
+    /// The items of a list that is a `Value` (of a dictionary).
     HeldList(&'a [Value]),
-    /// The children of a struct that is a value of its own.
+    /// The children of a struct that is a `Value` (of a dictionary).
     HeldStruct(&'a [Value]),
 }
 

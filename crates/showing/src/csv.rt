@@ -69,7 +69,7 @@ pub fn write_csv_names<W: Write>(fields: &[Field], out: &mut W) -> io::Result<()
     out.write_all(b"\n")
 }
 
-/// Writes the line of a row (RFC 4180, section 2): the cells of some columns at one place, each as a field, with a
+/// Writes the line of a row (RFC 4180, section 2): the cells of some columns at one index, each as a field, with a
 /// comma between each two, and a line feed. Where the writer fails, some of it may have been written.
 pub fn write_csv_row<W: Write>(
     fields: &[Field],

@@ -111,7 +111,7 @@ fn civil_day(day: u32) -> u32
     day_in(day) - (153 * month_in(day) + 2) / 5 + 1
 }
 
-/// The date so many days after the first of March of the year 0.
+/// The date this many days after the first of March of the year 0.
 fn date_after(days: u128) -> Date
     ensures { result ≡ date_after days }
 {
@@ -124,7 +124,7 @@ fn date_after(days: u128) -> Date
     }
 }
 
-/// The date so many days before the first of March of the year 0.
+/// The date this many days before the first of March of the year 0.
 fn date_before(days: u128) -> Date
     requires { 0 < days }
     ensures { result ≡ date_before days }
@@ -138,7 +138,7 @@ fn date_before(days: u128) -> Date
     }
 }
 
-/// The date so many days before the first of January of 1970.
+/// The date this many days before the first of January of 1970.
 fn date_back(days: u128) -> Date
     ensures { result ≡ date_back days }
 {
@@ -149,7 +149,7 @@ fn date_back(days: u128) -> Date
     }
 }
 
-/// The date so many days after the first of January of 1970, or before it where the number is below 0.
+/// The date this many days after the first of January of 1970, or before it where the number is below 0.
 fn civil(days: i128) -> Date
     ensures { result ≡ civil days }
 {
@@ -193,7 +193,7 @@ fn write_civil<W: Write>(out: &mut W, date: Date) -> io::Result<()>
     write_digits(out, u128::from(date.day), 2)
 }
 
-/// Writes the date so many days after the first of January of 1970.
+/// Writes the date this many days after the first of January of 1970.
 pub(crate) fn write_date<W: Write>(out: &mut W, days: i128) -> io::Result<()>
     ensures { OnOk result (Appends (W.contents out.old) (W.contents out.new) (date_text days)) }
 {
@@ -235,7 +235,7 @@ fn write_clock<W: Write>(out: &mut W, time: u128, unit: TimeUnit) -> io::Result<
     write_fraction(out, time, scale)
 }
 
-/// Writes a time of day. One before midnight has a sign, and one behind the day more than 23 hours.
+/// Writes a time of day. One before midnight has a sign, and one after the day more than 23 hours.
 #[tactic(auto, using(crate::proofs::WrittenTexts::appends))]
 pub(crate) fn write_time<W: Write>(out: &mut W, time: i128, unit: TimeUnit) -> io::Result<()>
     ensures { OnOk result (Appends (W.contents out.old) (W.contents out.new) (time_text (scale_of unit) time)) }
@@ -279,7 +279,7 @@ fn write_instant<W: Write>(out: &mut W, time: i128, unit: TimeUnit) -> io::Resul
     write_clock(out, time_of_day(time, unit), unit)
 }
 
-/// Writes `Z`, for UTC, behind an instant.
+/// Writes `Z`, for UTC, after an instant.
 fn write_zone<W: Write>(out: &mut W, is_instant: bool) -> io::Result<()>
     ensures { OnOk result (Appends (W.contents out.old) (W.contents out.new) (zone_text is_instant)) }
 {

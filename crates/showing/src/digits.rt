@@ -83,7 +83,7 @@ pub(crate) fn write_scaled<W: Write>(out: &mut W, number: u128, scale: u8) -> io
     write_fraction(out, number, scale)
 }
 
-/// Writes a decimal by its unscaled number, with `scale` digits behind the point.
+/// Writes a decimal by its unscaled number, with `scale` digits after the point.
 #[tactic(auto, using(crate::proofs::WrittenTexts::appends))]
 pub(crate) fn write_decimal<W: Write>(out: &mut W, unscaled: i128, scale: u8) -> io::Result<()>
     ensures { OnOk result (Appends (W.contents out.old) (W.contents out.new) (decimal_text scale unscaled)) }

@@ -1,6 +1,6 @@
 //! Lists and structs as JSON.
 //!
-//! A quote is written as `quote`, so that the text can stand in a field of CSV, where quotes are doubled.
+//! A quote is written as `quote`, so that the text can be a field of CSV, where quotes are doubled.
 
 ghost use Rattle.std.specs.Prelude.{◌≡◌, ◌++◌, ◌-◌, ◌∷◌, [], OnOk, codes, flat_map};
 ghost use Rattle.std.specs.Io.KnownBytes.{Appends};
@@ -172,7 +172,7 @@ fn write_items<W: Write>(out: &mut W, quote: &str, field: &Field, items: Items) 
     Ok(())
 }
 
-/// Writes the children of a struct, the cells at one place of some arrays.
+/// Writes the children of a struct, the cells at one index of some arrays.
 #[cycle(json)]
 #[tactic(auto, using(crate::proofs::Members::members))]
 fn write_struct<W: Write>(

@@ -1,7 +1,7 @@
 //! Shows rows as text: as CSV, or as a table for a terminal.
 //!
-//! A cell is read where it lies in its column and is written piece by piece, so no cell and no claim of a length takes
-//! memory. `specs/` says what the text of a number, of a date, of a field and of a line is.
+//! A cell is read where it lies in its column and is written piece by piece, so neither a cell nor a claimed length
+//! takes memory. `specs/` says what the text of a number, of a date, of a field and of a line is.
 #![tactic(auto)]
 
 mod cell;

@@ -7,10 +7,10 @@ use std::alloc::{AllocError, Global};
 use std::io;
 use std::io::{Error, ErrorKind, Write};
 
-/// How many bytes a short text has at most.
+/// The most bytes of a short text.
 const MOST: usize = 128;
 
-/// A text in the making, of at most 128 bytes. What would make it longer isn't taken.
+/// A text under construction, of at most 128 bytes. What would make it longer isn't appended.
 #[derive(Drop)]
 pub(crate) struct Short {
     bytes: Vec<u8>,
@@ -36,7 +36,7 @@ impl Short {
         self.bytes.as_slice()
     }
 
-    /// How many characters it has: as many as bytes that begin one.
+    /// The number of its characters: of bytes that begin one.
     pub(crate) fn width(&self) -> usize
         ensures { result ≡ width_of self.now.bytes.items }
     {

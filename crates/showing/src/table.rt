@@ -56,10 +56,10 @@ use values::ColType;
 
 const QUOTE: &str = "\"";
 
-/// What stands between the cells of a line.
+/// The separator of the cells of a line.
 const BAR: &str = " | ";
 
-/// What stands between the dashes of columns.
+/// The separator of the dashes of columns.
 const CROSS: &str = "-+-";
 
 /// How many rows of a batch are measured.
@@ -80,7 +80,7 @@ fn write_cell<W: Write>(out: &mut W, field: &Field, cell: Cell) -> io::Result<()
     }
 }
 
-/// Whether cells of this type stand at the right of their column: numbers do.
+/// Whether cells of this type are right-aligned: numbers are.
 fn is_number(stored: &ColType) -> bool
     ensures { result ≡ is_right stored.now }
 {
@@ -90,7 +90,7 @@ fn is_number(stored: &ColType) -> bool
     )
 }
 
-/// Writes a byte so many times.
+/// Writes a byte this many times.
 fn write_run<W: Write>(out: &mut W, byte: u8, count: usize) -> io::Result<()>
     ensures { OnOk result (Appends (W.contents out.old) (W.contents out.new) (replicate count byte)) }
 {
@@ -100,8 +100,8 @@ fn write_run<W: Write>(out: &mut W, byte: u8, count: usize) -> io::Result<()>
     Ok(())
 }
 
-/// Writes a short text in a column of this width, at its right or its left. Returns how many spaces fill the column
-/// behind it.
+/// Writes a short text in a column of this width, aligned right or left. Returns how many spaces fill the column after
+/// it.
 fn write_placed<W: Write>(
     out: &mut W,
     text: &Short,
@@ -173,7 +173,7 @@ fn widest(text: &mut Short, field: &Field, column: &Column, rows: usize, width: 
     most
 }
 
-/// Writes the name of a column. Returns how many spaces fill the column behind it.
+/// Writes the name of a column. Returns how many spaces fill the column after it.
 fn write_name<W: Write>(
     text: &mut Short,
     field: &Field,
@@ -189,7 +189,7 @@ fn write_name<W: Write>(
     Ok(0)
 }
 
-/// Writes a cell of a column. Returns how many spaces fill the column behind it.
+/// Writes a cell of a column. Returns how many spaces fill the column after it.
 fn write_in_column<W: Write>(
     text: &mut Short,
     field: &Field,
@@ -266,8 +266,8 @@ impl Table {
 
     /// Writes the line of the columns' names, and one of dashes.
     ///
-    /// The names stand in the order of the columns with a bar between each two, and those of numbers and durations at
-    /// the right of their columns. Where the writer fails, some of it may have been written.
+    /// The names are in the order of the columns with a bar between each two, and those of numbers and durations are
+    /// right-aligned. Where the writer fails, some of it may have been written.
     pub fn write_names<W: Write>(&mut self, fields: &[Field], out: &mut W) -> io::Result<()>
         ensures widths { self.new.widths.items ≡ self.old.widths.items }
         ensures lines { OnOk result (Writes (W.contents out.old) (W.contents out.new)
@@ -299,10 +299,10 @@ impl Table {
         out.write_all(b"\n")
     }
 
-    /// Writes the line of a row, the cells of some columns at one place.
+    /// Writes the line of a row, the cells of some columns at one index.
     ///
-    /// They stand in the order of the columns with a bar between each two, and numbers and durations at the right of
-    /// their columns. Where the writer fails, some of it may have been written.
+    /// They are in the order of the columns with a bar between each two, and numbers and durations are right-aligned.
+    /// Where the writer fails, some of it may have been written.
     pub fn write_row<W: Write>(
         &mut self,
         fields: &[Field],

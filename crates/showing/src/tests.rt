@@ -82,7 +82,7 @@ fn fields(alloc: Global) -> Result<Vec<Field>, AllocError> {
     Ok(vec![in alloc; field(alloc, "n", numbers)?, field(alloc, "a,b", texts)?]?)
 }
 
-/// Whether all columns have a cell at this place.
+/// Whether all columns have a cell at this index.
 fn have(columns: &[Column], row: usize) -> bool
     ensures { IsTrue result → All (λ c. row < length c.cells) columns.now }
 {

@@ -15,7 +15,7 @@ fn has_special(text: &[u8]) -> bool
     text.iter().any(|byte| *byte == b'"' || *byte == b',' || *byte == b'\r' || *byte == b'\n')
 }
 
-/// Whether a text stands between quotes: also where it is empty, since a field without a byte is a null.
+/// Whether a text is written between quotes: also where it is empty, since a field without a byte is a null.
 fn needs_quotes(text: &[u8]) -> bool
     ensures { result ≡ needs_quotes text.now }
 {

@@ -1,4 +1,4 @@
-//! Characters that a terminal must not see: control characters, and those that end a line or turn the direction of a
+//! Characters that a terminal must not see: control characters, and those that end a line or change the direction of a
 //! text.
 
 ghost use Rattle.std.specs.Prelude.{◌≡◌, OnOk};
@@ -8,7 +8,7 @@ ghost use Rattle.showing.specs.Visible.{is_hidden, visible_char, visible_text};
 use std::io;
 use std::io::Write;
 
-/// Whether a terminal could take the character for more than a sign to be shown.
+/// Whether a terminal could take the character for more than one to be shown.
 pub(crate) fn is_hidden(c: char) -> bool
     ensures { result ≡ is_hidden c }
 {

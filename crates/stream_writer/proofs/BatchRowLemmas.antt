@@ -115,7 +115,7 @@ take-joined (suc s) (x ∷ xs) ys =
     let same : s - length xs ≡ suc s - suc (length xs) = omega arith in
     ap (λ zs. x ∷ zs) (take-joined s xs ys ∙ ap (λ k. take s xs ++ take k ys) same)
 
--- of lists of rows, one after the other
+-- the same of lists of rows
 
 split-at : {X : Type 0} (f : X → List (List Datum)) (xs : List X) (i : ℕ) (x : X) → i < length xs → x ≡ get_or xs i x
     → flat_map f (drop i xs) ≡ f x ++ flat_map f (drop (i + 1) xs)
@@ -304,7 +304,7 @@ no-items : {A : Type 0} (xs : List A) → length xs ≡ 0 → xs ≡ []
 no-items [] e = refl
 no-items (x ∷ xs) e = absurd (omega (arith, e))
 
--- light rows beside light ones
+-- light rows with light ones
 pub weighed-more : (ls : Roses Layout) (ws : List ℕ) (rows new : List (List Datum)) (heaviest : ℕ)
     → AreWeighed ls ws rows → length ws ≡ 0 → heaviest ≤ max_light_row
     → All (λ (row : List Datum). row_weight ls row ≤ heaviest) new → AreWeighed ls ws (rows ++ new)

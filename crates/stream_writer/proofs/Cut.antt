@@ -53,7 +53,7 @@ pub cells-at : (rows : List (Vec Datum Global)) (i : ℕ) (row : Vec Datum Globa
 cells-at rows i row h e = ap cells_in (drop_more rows i row h)
     ∙ ap (λ r. r.items ∷ cells_in (drop (i + 1) rows)) (sym e)
 
--- the longest beginning
+-- the longest prefix
 
 pub beginning-none : (ls : Roses Layout) (n room : ℕ) → beginning ls n room [] ≡ 0
 beginning-none ls zero room = refl
@@ -163,7 +163,7 @@ sound-some fs row rows sound =
     beginning-light (trees fs) max_batch_rows max_batch_weight row rows (omega arith) (omega (arith, first)) in
     omega (arith, some)
 
--- others fuel than rows changes nothing
+-- more fuel than rows changes nothing
 fuel : (coded : List ℕ) (fs : List (Rose NamedType)) (m k : ℕ) (rows : List (List Datum)) → length rows ≤ m
     → length rows ≤ k
     → All (IsRow fs) rows → batches coded (trees fs) m rows ≡ batches coded (trees fs) k rows
@@ -238,7 +238,7 @@ batch-sound fs rows columns layouts sound =
       light = (batch_len-within (trees fs) rows).1;
     }
 
--- the rows that are left after the batch
+-- the remaining rows after the batch
 
 pub batch-of : (fs : List (Rose NamedType)) (ls : Roses Layout) (rows : List (List Datum)) (n : ℕ) → ls ≡ trees fs
     → AreColumns fs
@@ -262,7 +262,7 @@ pub sound-left : (fs : List (Rose NamedType)) (rows left : List (List Datum)) (n
     → All (IsRow fs) left
 sound-left fs rows left n is sound = subst (All (IsRow fs)) (sym is) (All-drop (IsRow fs) n rows sound)
 
--- the next batch, and what is left after it
+-- the next batch, and what remains after it
 pub batches-left : (coded : List ℕ) (fs : List (Rose NamedType)) (rows left : List (List Datum)) (n : ℕ)
     (tail : List ℕ)
     → 0 < length rows

@@ -69,7 +69,7 @@ cut-joined fs (suc most) (row ∷ rows) few sound =
     (All-drop (IsRow fs) n (row ∷ rows) sound))
     ∙ take-append-drop n (row ∷ rows)
 
--- the beginning stops at the number, at the end of the rows, or before a row that is too heavy
+-- the prefix ends at the number, at the end of the rows, or before a row that is too heavy
 beginning-full : (ls : Roses Layout) (n room : ℕ) (rows : List (List Datum)) → beginning ls n room rows < length rows →
     (beginning ls n room rows ≡ n) ⊎ (room < rows_weight ls (take (beginning ls n room rows + 1) rows))
 beginning-full ls zero room rows h = inl refl

@@ -41,7 +41,7 @@ use Rattle.array_layout.specs.Sound.{faults_in, own_faults}
 use Rattle.array_layout.specs.Cells.{cell, cell_by, cells, column_of, indexed, len_of}
 use Rattle.stream_writer.specs.Coding.{AreTextCells, add_text, index_in, index_layout, texts_after}
 
--- what a cell of indices stands for
+-- the value to which a cell of indices refers
 abbrev pub decode : List Datum → Datum → Reading Datum
 decode values (whole z) = indexed values z
 decode values c = Ok c
@@ -86,7 +86,7 @@ each-decoded f g values i (suc n) cs ds step e h =
     by-cells x xs [] here there k later = absurd k
     by-cells x xs (d ∷ rest) here there k later = rw (step i x d here k.0, later xs rest there k.1) refl
 
--- one cell: a null stays one, a number stands for a value
+-- one cell: a null stays one, a number refers to a value
 
 abbrev unless_null : Bool → Reading Datum → Reading Datum
 unless_null b m = if b then Ok null else m
@@ -198,7 +198,7 @@ among-values seen (bytes x ∷ cs) h = absurd (h.0)
 among-values seen (list es ∷ cs) h = absurd (h.0)
 among-values seen (structure es ∷ cs) h = absurd (h.0)
 
--- the value at the place of a text is the text
+-- the value at the position of a text is the text
 
 pub place-found : (t : List ℕ) (values : List (List ℕ)) → list_any (bytes_eq t) values ≡ true
     → slice_get (map text values) (position_or_len (bytes_eq t) values) ≡ Some (text t)

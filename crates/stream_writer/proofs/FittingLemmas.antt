@@ -31,7 +31,7 @@ use Rattle.body_writer.specs.Batch.{row_weight}
 use Rattle.stream_writer.specs.Stream.{batch_len, beginning}
 use Rattle.stream_writer.specs.Weights.{fitting, weights_of}
 
--- the longest beginning, by weights alone
+-- the longest prefix, by weights alone
 
 beginning-fitting : (ls : Roses Layout) (n room : ℕ) (rows : List (List Datum))
     → fitting n room (weights_of ls rows) ≡ beginning ls n room rows

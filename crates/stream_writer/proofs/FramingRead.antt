@@ -108,7 +108,7 @@ first-law known metadata body rest m some small e read =
     (size-read (length metadata) (metadata ++ (body ++ rest)) (omega (arith, small))) some small
     (omega (arith, e, more)) read)
 
--- what is left after a message
+-- what remains after a message
 pub message-left : (metadata body rest : List ℕ)
     → drop (8 + length metadata + length body) (message metadata body ++ rest) ≡ rest
 message-left metadata body rest =

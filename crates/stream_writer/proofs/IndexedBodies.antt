@@ -75,7 +75,7 @@ use Rattle.stream_writer.proofs.CodedRead.{indexed-cells, part-cells, same-cells
 use Rattle.stream_writer.proofs.DictionaryBodies.{IsBody, IsNew, all-written}
 use Rattle.stream_writer.proofs.IndexedRows.{TextTrees, values-batch}
 
--- where a coded column stands among the coded ones
+-- the index of a coded column among the coded ones
 
 any-below : (p : ℕ → Bool) (ks : List ℕ) → list_any p ks ≡ true → position_or_len p ks < length ks
 any-below p [] e = absurd (cc)
@@ -128,7 +128,7 @@ shown-cells coded j true rows e =
 shown-cells coded j false rows e =
     sym (same-cells coded (λ k. values_at k rows) j rows e) ∙ sym (part-cells j (indexed_rows coded rows))
 
--- columns from number j on are still to be written
+-- columns from number j on are still to be written, and then the body is the whole
 abbrev pub Indexing : List ℕ → ℕ → List (Rose Layout) → List (List Datum) → Body → Type 0
 Indexing coded j ts rows now =
     Writing j (indexed_layouts coded j (kids_of (drop j ts))) (indexed_rows coded rows) now

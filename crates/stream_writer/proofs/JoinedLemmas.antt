@@ -52,7 +52,7 @@ use Rattle.body_writer.specs.Picked.{beside}
 use Rattle.stream_writer.specs.JoinedRows.{AreArrays, HaveAlone, HaveJoined, IsFirst, IsPart, IsRest, half, joined_rows, place_of}
 use Rattle.stream_writer.specs.declared.joined_rows.JoinedRows.{JoinedRows}
 
--- the table in which a column stands
+-- the table that has a column
 
 pub record InMain (r : JoinedRows) (j : ℕ) : Type 0 where
   pub low : j < r.width
@@ -238,7 +238,7 @@ joined-rest n old new is =
 
 -- and what is known of these
 
--- which keeps what holds of all, and takes as many of as many
+-- which preserves what holds of all, and takes as many of as many
 record Keeps (part : List RowLocation → List RowLocation) : Type 1 where
   all : (P : RowLocation → Type 0) (ps : List RowLocation) → All P ps → All P (part ps)
   many : (ps qs : List RowLocation) → length ps ≡ length qs → length (part ps) ≡ length (part qs)

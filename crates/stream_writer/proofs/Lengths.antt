@@ -1,5 +1,5 @@
 -- The nodes of a body as they are checked: lengths and null counts are small, and each array is as long as a struct
--- above it wants.
+-- above it requires.
 use Rattle.std.proofs.Common.{
   ◌≡◌,
   ℕ,

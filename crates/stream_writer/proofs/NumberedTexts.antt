@@ -61,7 +61,7 @@ texts-inserted k ks =
     by-test true = refl
     by-test false = map-append (λ (x : Bor (List ℕ)). x.now) ks (k ∷ [])
 
--- a text that is added has the place that it is given
+-- a text that is added has the position that is returned for it
 
 place-pushed : (t : List ℕ) (seen : List (List ℕ)) → list_any (bytes_eq t) seen ≡ false
     → position_or_len (bytes_eq t) (seen ++ t ∷ []) ≡ position_or_len (bytes_eq t) seen
@@ -85,7 +85,7 @@ place-added t seen = by-test (list_any (bytes_eq t) seen) refl
     by-test true is = refl
     by-test false is = place-pushed t seen is
 
--- and keeps it
+-- and stays there
 
 place-before : (t u : List ℕ) (seen : List (List ℕ)) → list_any (bytes_eq t) seen ≡ true
     → position_or_len (bytes_eq t) (seen ++ u ∷ []) ≡ position_or_len (bytes_eq t) seen
@@ -121,7 +121,7 @@ place-kept t seen (bytes x ∷ cs) e = place-kept t seen cs e
 place-kept t seen (list es ∷ cs) e = place-kept t seen cs e
 place-kept t seen (structure es ∷ cs) e = place-kept t seen cs e
 
--- the index of a cell stays, whatever cells come after it
+-- the index of a cell stays, whatever cells follow
 pub index-kept : (seen : List (List ℕ)) (c : Datum) (cs : List Datum) → IsTextCell c
     → index_in (texts_after seen (c ∷ [])) c ≡ index_in (texts_after seen (c ∷ cs)) c
 index-kept seen null cs h = refl

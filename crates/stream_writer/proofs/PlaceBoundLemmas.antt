@@ -1,4 +1,4 @@
--- Bounds on the weights of rows that lie each at a place of its own.
+-- Bounds on the weights of rows at single locations.
 use Rattle.std.proofs.Common.{◌≡◌, ℕ, ◌+◌, ◌<◌, ◌≤◌, List, [], ◌∷◌, All, Some, length, get_or, drop, ap, sym, subst, ◌∙◌, arith, inl, inr}
 use Rattle.std.specs.Prelude.{map, max, slice_get}
 use Rattle.std.proofs.lemmas.Bool.{cases_lt}
@@ -72,7 +72,7 @@ bound-as t j k most old new rows place bound =
     subst (λ i. BoundsColumn t i new.batches.now most) place
     (subst (λ (x : LocatedRows). BoundsColumn t j x.batches.now most) rows bound)
 
--- place after place
+-- location after location
 
 -- A value that this layout holds isn't heavier in it.
 abbrev pub IsWithin : Rose Layout → ℕ → Datum → Type 0
@@ -135,7 +135,7 @@ joined-within t columns r i most have h bound =
 
 -- column after column
 
--- the sum of the bounds so far, and what the columns that are left weigh
+-- the sum of the bounds so far, and what the remaining columns weigh
 pub record IsLightSoFar (ls : List (Rose Layout)) (columns : List ℕ) (i sum : ℕ) (row : List Datum) : Type 0 where
   pub held : HoldsEach (kids_of (drop i ls)) (items_of (picked (drop i columns) row))
   pub light : row_weight (kids_of ls) (picked columns row) ≤ sum + row_weight (kids_of (drop i ls)) (picked (drop i columns) row)

@@ -137,7 +137,7 @@ rows-of-columns r columns cs are i c h is =
     sym (parts-picked columns (joined_rows r) i (get_or columns i 0) (omega (arith, h, many)) refl)
     ∙ (columns-at r columns cs i c are h is).cells
 
--- the rows that are left
+-- the remaining rows
 
 pub placed-many : (columns : List ℕ) (r : JoinedRows) → HaveJoined columns r
     → length (picked_rows columns (joined_rows r)) ≡ length r.main.locations.now
@@ -148,7 +148,7 @@ pub first-rows : (columns : List ℕ) (n : ℕ) (old new : JoinedRows) → IsFir
 first-rows columns n old new is =
     ap (picked_rows columns) (joined-first n old new is) ∙ sym (picked-taken columns n (joined_rows old))
 
--- the first of them make a batch
+-- the first of them can be a batch
 pub first-batch : (ls : Roses Layout) (left : PlaceRows) (n : ℕ) (first : JoinedRows) (cs : List LocatedColumn)
     → IsFirst n left.rows first → AreRowsOf cs (picked_rows left.columns.now (joined_rows first))
     → IsBatch ls (take n (placed_left left)) → MakeBatch ls cs (take n (placed_left left))

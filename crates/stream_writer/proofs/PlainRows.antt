@@ -57,7 +57,7 @@ plain-table fs rows none_there plain few =
         All-cons (IsRow []) row.items (map (λ (r : Vec Datum Global). r.items) rows)
         (subst (IsRow []) (sym (All-head P row rows plain)) plain-row) (each-plain rows (All-tail P row rows plain))
 
--- a batch of no columns may come after other rows without cells
+-- a batch of no columns may follow other rows without cells
 pub plain-comes : (rows : List (List Datum)) (b : Batch) (heaviest : ℕ) → b.columns.items ≡ []
     → length rows + b.rows ≤ max_main_rows → MayCome [] rows b heaviest
 plain-comes rows b heaviest none_there few =

@@ -81,7 +81,7 @@ open-is ls held count size b e long is not_so =
     few_rows : (ls : Roses Layout) (held : List (List Datum)) → batch_len ls held ≤ max_batch_rows
     few_rows ls held = Rattle.stream_writer.proofs.Cut.batch_len-few ls held
 
--- what is held after a batch went out
+-- what is held after a batch was put
 
 pub held-after : (fs : List (Rose NamedType)) (ls : List (Rose Layout)) (rows held left : List (List Datum))
     (written size n later : ℕ)
@@ -103,7 +103,7 @@ held-after fs ls rows held left written size n later h closed e behind small is 
       short = omega (arith, short, one, within, gone, fewer, there, small, is);
     }
 
--- the rows that are left are the last of those that were there
+-- the remaining rows are the last of those so far
 
 pub gone-more : {A : Type 0} (old left behind : List A) (n : ℕ) → left ≡ drop (length old - length left) old
     → behind ≡ drop n left → n ≤ length left → behind ≡ drop (length old - length behind) old
@@ -212,7 +212,7 @@ held-first fs ls rows written layouts table small = record {
   short = omega (arith, small);
 }
 
--- what is held after any batch went out
+-- what is held after any batch was put
 pub held-rest : (fs : List (Rose NamedType)) (ls : List (Rose Layout)) (rows held left : List (List Datum))
     (written size n later : ℕ)
     → IsHeld fs ls rows held written → 0 < length held → n ≡ batch_len (kids_of ls) held → left ≡ drop n held

@@ -67,7 +67,7 @@ whole-bound c from to most within each bound = record {
   most_is = bound;
 }
 
--- values of one layout that lie as those of another
+-- values of one layout that are stored as those of another
 
 -- neither lists nor structs
 pub record IsFlat (l : Layout) : Type 0 where
@@ -141,7 +141,7 @@ values-bounded t l kids c from to most own all is flat held within heaviest own_
   most_is = omega (arith, small);
 }
 
--- Column by column: the sum of the bounds so far, and what the columns that are left weigh.
+-- Column by column: the sum of the bounds so far, and what the remaining columns weigh.
 pub record LightSoFar (ts : List (Rose Layout)) (columns : List ℕ) (cells : List (List Datum)) (from to sum : ℕ)
     (ls : Roses Layout) (all : List ℕ) : Type 0 where
   pub held :

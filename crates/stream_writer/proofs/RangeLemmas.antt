@@ -157,7 +157,7 @@ all-rows P n columns r is each =
     ∙ ap (picked columns) (row-in n r m is (omega (arith, inside, long)))) in
     subst P here (each (r.from + m) (omega arith) (omega (arith, inside, long))))
 
--- and so it is with ranges
+-- and the same of ranges
 
 all-split : {X : Type 0} (P : X → Type 0) (xs ys : List X) → All P (xs ++ ys) → All P xs × All P ys
 all-split P [] ys all = (All-nil P, all)

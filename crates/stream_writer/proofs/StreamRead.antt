@@ -201,7 +201,7 @@ message-story_step n known ds metadata body rest m short e read =
     (first-law known metadata body rest m short.some short.small e read)
     (story_step-whole n known ds bytes body rest w cut left)
 
--- what is known once the schema came, and some dictionaries
+-- what is known after the schema, and some dictionaries
 abbrev begun : Option (List (Rose NamedType)) → List ℕ → List (Rose NamedType) → List (ℤ × ℕ) → Known
 begun declared coded fs counts =
     record { declared = declared; schema = Some (coded_fields coded fs); counts = counts }
@@ -222,13 +222,14 @@ batch-long : (ls : Roses Layout) (rows : List (List Datum)) → 8 ≤ length (ba
 unfolding batch_message
 batch-long ls rows = message-long (batch_metadata ls rows) (body_bytes ls rows)
 
--- Whatever counts are known and however many messages may come, these bytes have this story, after these dictionaries.
+-- Whatever counts are known and however many messages may follow, these bytes have this story, after these
+-- dictionaries.
 abbrev HasStory : Option (List (Rose NamedType)) → List ℕ → List (Rose NamedType) → List DictionaryBatch → List ℕ
     → Story → Type 0
 HasStory declared coded fs ds bytes s =
     (n : ℕ) (counts : List (ℤ × ℕ)) → length bytes ≤ n → story n (begun declared coded fs counts) ds bytes ≡ s
 
--- the record batch, once its dictionaries are there
+-- the record batch, after its dictionaries
 record-story_step :
     (declared : Option (List (Rose NamedType))) (coded : List ℕ) (fs : List (Rose NamedType))
     (ds : List DictionaryBatch) (rows more : List (List Datum)) (rest : List ℕ)

@@ -1,4 +1,4 @@
--- A batch comes to a writer, and closed batches leave it.
+-- A batch is added to a writer, and closed batches leave it.
 use Rattle.std.proofs.Common.{
   ◌≡◌,
   ℕ,
@@ -194,7 +194,7 @@ source-held fs ls us rows held left written same is h =
     subst (λ (ts : List (Rose Layout)). IsHeld fs ts rows left written) (sym same)
     (subst (λ (rs : List (List Datum)). IsHeld fs ls rows rs written) (sym is) h)
 
--- what is held after closed batches went out
+-- what is held after closed batches were put
 
 pub holds-last :
     (start now new : Sunk) (fs : List (Rose NamedType)) (rows : List (List Datum)) (w v : TableWriter) (gone : ℕ)
@@ -295,7 +295,7 @@ stops-before start now fs rows w b heaviest written holds comes is =
     (stops-memory start now w.written fs [] (rows ++ batch_rows b) (rows_held w ++ batch_rows b)
     (put-more start now w.written fs [] rows (rows_held w) (batch_rows b) holds.put comes.sound))
 
--- a row's place lies in the batches from it on
+-- a row's position is in the batches from it on
 pub within-step : (bs : List Batch) (i : ℕ) (b : Batch) (start : ℕ) → i < length bs → b ≡ get_or bs i b
     → b.rows ≤ start → start ≤ length (rows_of (drop i bs)) → start - b.rows ≤ length (rows_of (drop (i + 1) bs))
 within-step bs i b start h e past within =
@@ -304,7 +304,7 @@ within-step bs i b start h e past within =
     let long = batch-long b in
     omega (arith, split, both, long, past, within)
 
--- the rows from a place on, where some more are let go
+-- the rows from a position on, where some more are dropped
 pub released : (bs held : List Batch) (from count p start : ℕ) (sliced : List Batch) → sliced ≡ bs
     → drop start (rows_of (drop p sliced)) ≡ drop (from + count) (rows_of sliced) → held ≡ drop p bs
     → drop start (rows_of held) ≡ drop count (drop from (rows_of bs))
@@ -312,7 +312,7 @@ released bs held from count p start sliced e place kept =
     ap (λ h. drop start (rows_of h)) (kept ∙ ap (drop p) (sym e)) ∙ place
     ∙ ap (λ xs. drop (from + count) (rows_of xs)) e ∙ sym (drop-drop count from (rows_of bs))
 
--- a writer to which no row came
+-- a writer without rows
 pub begins :
     (start now : Sunk) (fs : List (Rose NamedType)) (w : TableWriter) → HasPut start now w.written fs [] [] []
     → kids_of w.layouts.items ≡ trees fs → AreColumns fs → AreLayouts (trees fs) → w.held.items ≡ []

@@ -84,7 +84,7 @@ end-comes start now written whole coded ls rows so_far none =
     let P : List ℕ → Type 0 = λ rest. WrittenSoFar start now written whole rest in
     subst P (ap (λ bs. bs ++ end_mark) (batches-none coded ls rows none)) so_far
 
--- what the last put answers is the writer's answer
+-- the answer of the last put is the writer's answer
 pub last-put : (start now : Sunk) (answer : Result ℕ WriteFault) (whole : List ℕ) →
     MatchResult answer (λ n. WrittenSoFar start now n whole []) (λ fault. Writes start now (Err fault) whole)
     → Writes start now answer whole

@@ -1,4 +1,4 @@
--- One more piece goes out, or the writer stops.
+-- One more piece is put, or the writer stops.
 use Rattle.std.proofs.Common.{
   ◌≡◌,
   ℕ,
@@ -41,7 +41,7 @@ nothing : (known : Option (List ℕ)) → Appends known known []
 nothing None = tt
 nothing (Some xs) = sym (append-nil xs)
 
--- nothing is out yet
+-- nothing is put yet
 pub WrittenSoFar-start : (start : Sunk) (whole : List ℕ) → WrittenSoFar start start 0 whole whole
 WrittenSoFar-start start whole =
     record { bytes = nothing start.taken; left = refl; bound = omega arith; failures = refl }
@@ -77,7 +77,7 @@ stop-in start old new written k whole piece rest so_far answer later is after co
       device = device;
     }
 
--- the next piece went out
+-- the next piece was put
 pub WrittenSoFar-on : (start old new : Sunk) (written more : ℕ) (whole piece rest : List ℕ)
     → WrittenSoFar start old written whole (piece ++ rest) → Writes old new (Ok more) piece
     → WrittenSoFar start new (written + more) whole rest
@@ -121,7 +121,7 @@ pub WrittenSoFar-memory : (start now : Sunk) (written : ℕ) (whole rest : List 
 WrittenSoFar-memory start now written whole rest so_far =
     record { bytes = so_far.bytes; bound = so_far.bound; complete = tt; device = no-device start now so_far.failures }
 
--- all is out
+-- all is put
 pub WrittenSoFar-end : (start now : Sunk) (written : ℕ) (whole : List ℕ) → WrittenSoFar start now written whole []
     → Writes start now (Ok written) whole
 WrittenSoFar-end start now written whole so_far =

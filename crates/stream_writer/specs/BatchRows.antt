@@ -16,12 +16,13 @@ max_light_row = 2 ^ 17
 abbrev pub AreLightRows : Roses Layout → List (List Datum) → Type 0
 AreLightRows ls rows = All (λ (row : List Datum). row_weight ls row ≤ max_light_row) rows
 
--- No weight is given, and all rows are so light that each batch that is written has its 1,024 rows; or each row's is.
+-- No weight is given, and all rows are so light that each batch that is written has its 1,024 rows; or the weight of
+-- each row is given.
 abbrev pub AreWeighed : Roses Layout → List ℕ → List (List Datum) → Type 0
 AreWeighed ls weights rows = ((weights ≡ []) × AreLightRows ls rows) ⊎ (weights ≡ weights_of ls rows)
 
--- Where these are the weights of the rows from row `from` on, those are the weights of them and of the batch's rows, of
--- which none is above `heaviest`.
+-- Where the first are the weights of the rows from row `from` on, the others are those of the same rows and the
+-- batch's, none of which is above `heaviest`.
 abbrev pub AreWeighedToo : List Batch → ℕ → Batch → ℕ → List ℕ → List ℕ → Type 0
 AreWeighedToo before from batch heaviest weights more =
     (ls : Roses Layout) → All (WeighsAs ls) before → WeighsAs ls batch

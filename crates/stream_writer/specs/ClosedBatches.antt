@@ -1,5 +1,5 @@
 -- The batches that are closed: whatever rows come later, they are the first batches of the whole table. So they can be
--- written before the rows after them are there.
+-- written before the rows after them come.
 use Rattle.std.specs.Prelude.{
   ◌≡◌,
   ℕ,
@@ -36,7 +36,7 @@ use Rattle.stream_writer.specs.Table.{IsRow}
 abbrev pub IsClosed : Roses Layout → List (List Datum) → Type 0
 IsClosed ls rows = (batch_len ls rows ≡ max_batch_rows) ⊎ (batch_len ls rows < length rows)
 
--- The next batch has all rows that are there, and there is room for one more.
+-- The next batch has all rows so far, and there is room for one more.
 abbrev pub is_open : Roses Layout → List (List Datum) → Bool
 is_open ls rows = (batch_len ls rows == length rows) && nat_lt (length rows) max_batch_rows
 
@@ -54,8 +54,8 @@ open_rows ls zero rows = rows
 open_rows ls (suc most) rows =
     if is_open ls rows then rows else open_rows ls most (drop (batch_len ls rows) rows)
 
--- The batches of the rows with those that come later begin with the closed batches of the rows, and then have those
--- of the rows that are left, with the later ones.
+-- The batches of the rows with those that come later begin with the closed batches of the rows, followed by those of
+-- the remaining rows with the later ones.
 pub record IsSettled (ls : Roses Layout) (rows more : List (List Datum)) (pieces : List (List (List Datum)))
     (left : List (List Datum)) : Type 0 where
   pub bytes : (coded : List ℕ)

@@ -1,5 +1,5 @@
 -- Columns of texts that are written with dictionaries: which values the dictionaries of a batch have, and by which
--- indices its cells stand for them.
+-- indices its cells refer to them.
 use Rattle.std.specs.Prelude.{
   ◌≡◌,
   ℕ,
@@ -34,7 +34,7 @@ use Rattle.values.specs.Coded.{is_coded}
 abbrev pub add_text : List (List ℕ) → List ℕ → List (List ℕ)
 add_text seen t = if list_any (bytes_eq t) seen then seen else seen ++ t ∷ []
 
--- the texts in these cells after those that were seen, each once, in order of first appearance; a null is none
+-- the texts in these cells after these, each once, in order of first appearance; nulls are skipped
 abbrev pub texts_after : List (List ℕ) → List Datum → List (List ℕ)
 texts_after seen [] = seen
 texts_after seen (text t ∷ cs) = texts_after (add_text seen t) cs

@@ -1,5 +1,5 @@
 -- The cut into batches: the rows of the batches are the rows of the table, in order; each batch has a row and is within
--- the limits; and no batch could have taken the next row too.
+-- the limits; and no batch has room for the next row.
 use Rattle.std.specs.Prelude.{◌≡◌, ℕ, zero, suc, ◌<◌, ◌⊎◌, List, [], ◌∷◌, ◌++◌, length, take, drop, ⊤}
 use Rattle.std.specs.List.{flat_map}
 use Rattle.values.specs.Limits.{max_batch_rows, max_batch_weight}

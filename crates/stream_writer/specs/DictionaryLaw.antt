@@ -1,5 +1,5 @@
 -- What the dictionary of a coded column has: the texts of the column's cells in a batch, each once, in order of first
--- appearance; the index of a cell is the place of its text. And a dictionary batch that is written is read back.
+-- appearance; the index of a cell is the position of its text. And a dictionary batch that is written is read back.
 use Rattle.std.specs.Prelude.{◌≡◌, ◌⊎◌, ℕ, pos, true, false, List, [], ◌∷◌, ◌++◌, length, map, slice_get, Some, Ok}
 use Rattle.values.specs.Coded.{AreCoded, is_coded}
 use Rattle.values.specs.Datum.{Datum, text, whole}
@@ -41,13 +41,14 @@ AreTheTexts =
 abbrev pub DifferInPairs : Type 0
 DifferInPairs = (cells : List Datum) → AreDifferent (texts_after [] cells)
 
--- The values of more cells begin with those of the first ones: a text has its place by its first appearance.
+-- The values of more cells begin with those of the first ones: the position of a text follows from its first
+-- appearance.
 abbrev pub BeginAlike : Type 0
 BeginAlike =
     (cells later : List Datum)
     → (more : List (List ℕ)) × (texts_after [] (cells ++ later) ≡ texts_after [] cells ++ more)
 
--- The index of a text that a cell holds is the place of that text among the values.
+-- The index of a text that a cell holds is the position of that text among the values.
 abbrev pub NameTheirTexts : Type 0
 NameTheirTexts =
     (cells : List Datum) (t : List ℕ) → IsInCells t cells

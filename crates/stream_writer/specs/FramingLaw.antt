@@ -13,7 +13,7 @@ FirstLaw =
     → 0 < length metadata → length metadata ≤ max_metadata_size → m.body ≡ length body → meta_of known metadata ≡ Ok m
     → first known (message metadata body ++ rest) ≡ Ok (Some (record { front = 8 + length metadata; meta = m }))
 
--- The end mark is one, where a schema came.
+-- The end mark is found so too, after a schema.
 abbrev pub LastLaw : Type 0
 LastLaw = (known : Known) → IsSome known.schema
     → first known end_mark ≡ Ok (Some (record { front = 8; meta = end_meta }))

@@ -11,7 +11,8 @@ use Rattle.stream_writer.specs.declared.joined_rows.JoinedRows.{JoinedRows}
 abbrev pub joined_rows : JoinedRows → List (List Datum)
 joined_rows r = beside (rows_at r.main) (rows_at r.side)
 
--- The main rows are there, with `width` cells, and there are as many places of side rows. These are some columns of both.
+-- The main rows exist, with `width` cells, and there are as many locations of side rows. These are some columns of
+-- both.
 pub record HaveJoined (columns : List ℕ) (r : JoinedRows) : Type 0 where
   pub many : length r.side.locations.now ≡ length r.main.locations.now
   pub main : All (IsRowAt r.width r.main.batches.now) r.main.locations.now
@@ -19,12 +20,12 @@ pub record HaveJoined (columns : List ℕ) (r : JoinedRows) : Type 0 where
   pub side : AreLocated more r.side
   pub below : All (λ j. j < r.width + more) columns
 
--- The rows are there, with so many cells. These are some of their columns.
+-- The rows exist, with this many cells. These are some of their columns.
 pub record HaveAlone (columns : List ℕ) (width : ℕ) (r : LocatedRows) : Type 0 where
   pub main : All (IsRowAt width r.batches.now) r.locations.now
   pub below : All (λ j. j < width) columns
 
--- the rows of the table in which column j stands, and its position there
+-- the rows of the table that has column j, and its position there
 
 abbrev pub half : JoinedRows → ℕ → LocatedRows
 half r j = if nat_lt j r.width then r.main else r.side
@@ -32,7 +33,7 @@ half r j = if nat_lt j r.width then r.main else r.side
 abbrev pub place_of : JoinedRows → ℕ → ℕ
 place_of r j = if nat_lt j r.width then j else j - r.width
 
--- The rows lie in the same batches, but for some of them.
+-- The rows lie in the same batches, and are some of them.
 pub record IsPart (part : List RowLocation → List RowLocation) (old new : JoinedRows) : Type 0 where
   pub width : new.width ≡ old.width
   pub main_batches : new.main.batches ≡ old.main.batches

@@ -1,4 +1,4 @@
--- Rows that lie each at a place of its own in batches, of which some columns are written.
+-- Rows that lie at single locations in batches, of which some columns are written.
 use Rattle.std.specs.Prelude.{◌≡◌, ℕ, ◌^◌, ◌<◌, ◌≤◌, List, Some, length, slice_get}
 use denote.Ref.{Bor}
 use Rattle.values.specs.Datum.{Datum}

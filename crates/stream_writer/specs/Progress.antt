@@ -1,4 +1,4 @@
--- How far a table is written whose later rows are not known yet: what is out is the beginning that its stream has
+-- How far a table is written whose later rows are not known yet: what was put is the prefix that its stream has
 -- whatever rows come.
 use Rattle.std.specs.Prelude.{◌≡◌, ℕ, ◌+◌, ◌-◌, ◌*◌, ◌^◌, ◌≤◌, All, List, [], ◌++◌, drop, length, Result, Err, MatchResult}
 use Rattle.values.specs.Limits.{max_main_rows}
@@ -15,8 +15,8 @@ use Rattle.stream_writer.specs.WrittenSoFar.{WrittenSoFar}
 use Rattle.stream_writer.specs.declared.faults.WriteFault.{WriteFault}
 use Rattle.stream_writer.specs.declared.progress.Progress.{Progress}
 
--- The first `written` bytes are out of the canonical stream of each table that begins with these rows; its batches of
--- the held rows and of those after them, and the end mark, are left.
+-- The first `written` bytes of the canonical stream of each table that begins with these rows were put; its batches of
+-- the held rows and of those after them, and the end mark, remain.
 abbrev pub HasPut :
     Sunk → Sunk → ℕ → List (Rose NamedType) → List ℕ → List (List Datum) → List (List Datum) → Type 0
 HasPut start now written fs coded rows held =
@@ -24,13 +24,13 @@ HasPut start now written fs coded rows held =
     → WrittenSoFar start now written (coded_canon fs coded (rows ++ more))
     (batches coded (trees fs) (length (held ++ more)) (held ++ more) ++ end_mark)
 
--- A fault: what went out is a beginning of the canonical stream of each table that begins with these rows.
+-- A fault: what was put is a prefix of the canonical stream of each table that begins with these rows.
 abbrev pub StopsIn : Sunk → Sunk → WriteFault → List (Rose NamedType) → List ℕ → List (List Datum) → Type 0
 StopsIn start now fault fs coded rows =
     (more : List (List Datum)) → All (IsRow fs) more → Writes start now (Err fault) (coded_canon fs coded (rows ++ more))
 
--- Of a table with these columns, of which `rows` came so far, the held rows are the last, and may be written after
--- `written` bytes.
+-- Of a table with these columns, `rows` are the rows so far, of which the held rows are the last, and may be written
+-- after `written` bytes.
 pub record IsHeld (fs : List (Rose NamedType)) (ls : List (Rose Layout)) (rows held : List (List Datum))
     (written : ℕ) : Type 0 where
   pub layouts : kids_of ls ≡ trees fs
@@ -44,12 +44,12 @@ pub record IsHeld (fs : List (Rose NamedType)) (ls : List (Rose Layout)) (rows h
 abbrev pub last_rows : ℕ → List (List Datum) → List (List Datum)
 last_rows n rows = drop (length rows - n) rows
 
--- the Schema message of a table of which no row came yet is put, or the writer stops in it
+-- the Schema message of a table without rows so far is put, or the writer stops in it
 abbrev pub PutsSchema : Sunk → Sunk → List (Rose NamedType) → List ℕ → Result ℕ WriteFault → Type 0
 PutsSchema old new fs coded result =
     MatchResult result (λ n. HasPut old new n fs coded [] []) (λ fault. StopsIn old new fault fs coded [])
 
--- the last of the held rows, so many of them, are held after the bytes that are out then
+-- this many of the held rows, the last ones, are still held after the bytes that were put by then
 abbrev pub StayHeld : List (Rose Layout) → List (List Datum) → ℕ → Progress → Type 0
 StayHeld ls held written p =
     (fs : List (Rose NamedType)) (rows : List (List Datum)) → IsHeld fs ls rows held written

@@ -7,7 +7,7 @@ use Rattle.values.specs.Rose.{Rose}
 use Rattle.values.specs.declared.layout.Layout.{Layout}
 use Rattle.arrays.specs.Checked.{CheckedColumn}
 
--- None of these cells is heavier than this, which is no limit where it is above that of a cell.
+-- None of these cells is heavier than this; a value above the limit of a cell says nothing.
 pub record IsHeaviest (c : CheckedColumn) (from to most : ℕ) : Type 0 where
   pub each : most ≤ max_cell_weight → (k : ℕ) → from ≤ k → k < to → weight c.layouts (get_or c.cells k null) ≤ most
   pub most_is : most ≤ max_cell_weight + 1

@@ -9,11 +9,11 @@ use Rattle.body_writer.specs.Picked.{HaveColumns, picked_rows}
 use Rattle.stream_writer.specs.BatchRows.{AreLightRows}
 use Rattle.stream_writer.specs.declared.range_rows.RangeRows.{RangeRows}
 
--- the rows that are left, of all columns
+-- the remaining rows, of all columns
 abbrev pub whole_left : RangeRows → List (List Datum)
 whole_left r = drop r.from (ranges_rows r.ranges.now)
 
--- and of those that are written
+-- the same with the columns that are written
 abbrev pub picked_left : RangeRows → List (List Datum)
 picked_left r = picked_rows r.columns.now (whole_left r)
 

@@ -29,7 +29,7 @@ DeclaredTrip =
     (fs : List (Rose NamedType)) (rows : List (List Datum)) → IsTable fs rows → AreNamed fs
     → story (length (canon fs rows)) (before (Some fs)) [] (canon fs rows) ≡ whole_story fs rows
 
--- Reading the canonical stream of a table gives the table: no fault stands, and its columns and its rows come back.
+-- Reading the canonical stream of a table gives the table: no fault, its columns and its rows.
 abbrev pub MeansItsTable : Type 0
 MeansItsTable =
     (fs : List (Rose NamedType)) (rows : List (List Datum)) → IsTable fs rows → AreNamed fs

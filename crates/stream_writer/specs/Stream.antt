@@ -1,8 +1,8 @@
 -- The canonical stream of a table.
 --
--- Arrow Columnar Format, "IPC Streaming Format": the Schema message, record batches, the end mark.
--- A batch is the longest beginning of the rows that are left with at most 1,024 rows and a summed
--- weight of at most 2^27. There is no batch for an empty table.
+-- Arrow Columnar Format, "IPC Streaming Format": the Schema message, record batches, the end mark. A batch is the
+-- longest prefix of the remaining rows with at most 1,024 rows and a summed weight of at most 2^27. There is no batch
+-- for an empty table.
 use Rattle.std.specs.Prelude.{ℕ, zero, suc, ◌+◌, ◌-◌, nat_le, if◌then◌else◌, List, [], ◌∷◌, ◌++◌, length, take, drop}
 use Rattle.std.specs.List.{flat_map}
 use Rattle.byteorder.specs.Endian.{little_bytes}
@@ -22,7 +22,7 @@ use Rattle.stream_writer.specs.DictionaryBatch.{dictionary_metadata, dictionary_
 abbrev pub message : List ℕ → List ℕ → List ℕ
 message metadata body = (255 ∷ 255 ∷ 255 ∷ 255 ∷ []) ++ (little_bytes 4 (length metadata) ++ (metadata ++ body))
 
--- the messages with this body: of a batch of so many rows, and of a dictionary of so many values
+-- the messages with this body: of a batch of n rows, and of a dictionary of n values
 abbrev pub batch_with : ℕ → Body → List ℕ
 batch_with rows b =
     message (batch_whole rows b.nodes.items b.ranges.items (length b.bytes.items)) b.bytes.items
@@ -56,7 +56,7 @@ unfoldable pub batch_messages : List ℕ → Roses Layout → List (List Datum) 
 batch_messages coded ls rows =
     dictionary_messages coded rows ++ batch_message (indexed_layouts coded 0 ls) (indexed_rows coded rows)
 
--- how many rows the longest beginning has, of at most n rows and a weight of at most `room`
+-- how many rows the longest prefix has, of at most n rows and a weight of at most `room`
 abbrev pub beginning : Roses Layout → ℕ → ℕ → List (List Datum) → ℕ
 beginning ls zero room rows = 0
 beginning ls (suc n) room [] = 0

@@ -9,7 +9,7 @@ use Rattle.schema_meta.specs.SchemaTree.{AreColumns}
 use Rattle.body_writer.specs.Batch.{row_weight}
 use Rattle.stream_writer.specs.Stream.{trees}
 
--- a cell a column, of the column's type, and not too heavy
+-- one cell for each column, of the column's type, and not too heavy
 pub record IsRow (fields : List (Rose NamedType)) (row : List Datum) : Type 0 where
   pub held : HoldsEach (trees fields) (items_of row)
   pub light : row_weight (trees fields) row ≤ max_row_weight

@@ -17,7 +17,7 @@ use Rattle.stream_writer.specs.Weights.{IsLightBatch, WeighsAs}
 use Rattle.stream_writer.specs.declared.faults.WriteFault.{WriteFault}
 use Rattle.stream_writer.specs.declared.table_writer.TableWriter.{TableWriter}
 
--- the rows that came and are in no batch that was put
+-- the rows so far that are in no batch that was put
 abbrev pub rows_held : TableWriter → List (List Datum)
 rows_held w = drop w.from (rows_of w.held.items)
 
@@ -37,8 +37,8 @@ pub record MayCome (fs : List (Rose NamedType)) (rows : List (List Datum)) (b : 
   pub bound : All (λ (row : List Datum). row_weight (trees fs) row ≤ heaviest) (batch_rows b)
   pub few : length rows + b.rows ≤ max_main_rows
 
--- Of a table with these columns these rows came, and all of its stream is out but what the held rows and later ones
--- become.
+-- These are the rows so far of a table with these columns, and all of its stream was put but what the held rows and
+-- later ones become.
 pub record Holds (start now : Sunk) (fs : List (Rose NamedType)) (rows : List (List Datum)) (w : TableWriter) :
     Type 0 where
   pub put : HasPut start now w.written fs [] rows (rows_held w)
@@ -58,7 +58,7 @@ pub record IsWriting (start now : Sunk) (fs : List (Rose NamedType)) (rows : Lis
   pub few : w.left < max_batch_rows
   pub batches : length w.held.items ≤ w.left
 
--- Of each table to which the batch may come, the writer has its rows too.
+-- Of each table that accepts the batch, the writer has its rows too.
 abbrev pub HoldsToo : Batch → ℕ → TableWriter → TableWriter → Type 0
 HoldsToo batch heaviest before after =
     (start now : Sunk) (fs : List (Rose NamedType)) (rows : List (List Datum)) → Holds start now fs rows before
@@ -75,7 +75,7 @@ StopsWriting old new batch heaviest before fault =
     (start : Sunk) (fs : List (Rose NamedType)) (rows : List (List Datum)) → IsWriting start old fs rows before
     → MayCome fs rows batch heaviest → StopsIn start new fault fs [] (rows ++ batch_rows batch)
 
--- Of a table without columns the writer has so many rows more.
+-- Of a table without columns the writer has this many rows more.
 abbrev pub HasMoreRows : Sunk → Sunk → ℕ → TableWriter → TableWriter → Type 0
 HasMoreRows old new count before after =
     (start : Sunk) (rows : List (List Datum)) → IsWriting start old [] rows before → length rows + count ≤ 2 ^ 24

@@ -35,7 +35,7 @@ fitting zero room ws = 0
 fitting (suc n) room [] = 0
 fitting (suc n) room (w ∷ ws) = if nat_le w room then 1 + fitting n (room - w) ws else 0
 
--- each column has a cell a row
+-- each column has one cell for each row
 abbrev pub HasSizes : Batch → Type 0
 HasSizes b = All (λ (c : CheckedColumn). length c.cells ≡ b.rows) b.columns.items
 

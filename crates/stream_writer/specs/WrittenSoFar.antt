@@ -4,7 +4,7 @@ use Rattle.std.specs.Io.KnownBytes.{Appends}
 use Rattle.stream_writer.specs.Sinks.{Sunk, Writes}
 use Rattle.stream_writer.specs.declared.faults.WriteFault.{WriteFault}
 
--- the first `written` bytes of `whole` went out, `rest` is left, and the sink has not failed
+-- the first `written` bytes of `whole` were put, `rest` remains, and the sink has not failed
 pub record WrittenSoFar (start now : Sunk) (written : ℕ) (whole rest : List ℕ) : Type 0 where
   pub bytes : Appends start.taken now.taken (take written whole)
   pub left : drop written whole ≡ rest

@@ -16,7 +16,7 @@ use std::alloc::{AllocError, Global};
 use values::LayoutTree;
 use values::limits::MAX_BATCH_ROWS;
 
-/// The `left` rows of these batches from row `from` on, of which each has its weight here; or none has, and all are so
+/// The `left` rows of these batches from row `from` on. Either each has its weight here; or none has, and all are so
 /// light that a batch of 1,024 of them is within the limit on weight.
 #[derive(Drop)]
 pub(crate) struct BatchRows<'a> {
@@ -26,14 +26,14 @@ pub(crate) struct BatchRows<'a> {
     pub weights: &'a [u64],
 }
 
-/// The place of a row: so many batches lie before the one with it, in which it is row `from`.
+/// The position of a row: how many batches come before the one with it, in which it is row `from`.
 #[derive(Clone, Copy)]
 pub(crate) struct RowPosition {
     pub batches: usize,
     pub from: usize,
 }
 
-/// The place of row `from`, counted through all batches.
+/// The position of row `from`, counted through all batches.
 pub(crate) fn find_row(batches: &[Batch], from: usize) -> RowPosition
     ensures within { result.batches ≤ length batches.now }
     ensures rows { drop result.from (rows_of (drop result.batches batches.now)) ≡ drop from (rows_of batches.now) }
@@ -91,7 +91,8 @@ pub(crate) fn ranges_of<'a>(
     Ok(ranges)
 }
 
-/// The RecordBatch message of `count` rows, from row `from` on. Room for `room` bytes of its body is made at once.
+/// The RecordBatch message of `count` rows, from row `from` on. Capacity for `room` bytes of its body is reserved at
+/// once.
 pub(crate) fn encode_rows(
     alloc: Global,
     layouts: &[LayoutTree],

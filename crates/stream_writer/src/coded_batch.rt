@@ -63,7 +63,7 @@ fn refs_of<'a>(alloc: Global, values: &'a [Value]) -> Result<Vec<Option<&'a Valu
     Ok(cells)
 }
 
-/// Where column `j` stands among the coded ones.
+/// The index of column `j` among the coded ones.
 fn place_of(coded: &[usize], j: usize) -> Option<usize>
     ensures { result ≡ position (λ k. k == j) coded.now }
 {
@@ -89,7 +89,8 @@ fn column_shown<'a>(
     }
 }
 
-/// The body of a batch of these rows, with indices in the coded columns. Room for `room` bytes of it is made at once.
+/// The body of a batch of these rows, with indices in the coded columns. Capacity for `room` bytes of it is reserved at
+/// once.
 fn write_indexed_body(
     alloc: Global,
     layouts: &[LayoutTree],

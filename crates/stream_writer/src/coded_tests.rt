@@ -68,7 +68,7 @@ fn writes_the_known_bytes(rt: HostRuntime) -> Result<(), Fail> {
     Ok(())
 }
 
-/// A sink that takes one byte a put, and answers 0 after `puts` puts.
+/// A sink that takes one byte a put, and returns 0 after `puts` puts.
 #[derive(Drop)]
 struct Dwindling {
     bytes: Vec<u8>,
@@ -99,7 +99,7 @@ impl Sink for Dwindling {
     }
 }
 
-/// One byte a put: a sink that fails after n puts, and one that answers 0 there, hold the first n bytes.
+/// One byte a put: a sink that fails after n puts, and one that returns 0 there, hold the first n bytes.
 #[test]
 fn fails_at_each_put(rt: HostRuntime) -> Result<(), Fail> {
     for puts in 0..656 {

@@ -54,7 +54,7 @@ fn write_values(alloc: Global, values: &[Option<&Value>]) -> Result<Body, AllocE
     Ok(body)
 }
 
-/// Appends the DictionaryBatch message of column `j` for a batch of these rows, and answers the indices of the column's
+/// Appends the DictionaryBatch message of column `j` for a batch of these rows, and returns the indices of the column's
 /// cells.
 fn write_dictionary(
     alloc: Global,
@@ -76,8 +76,8 @@ fn write_dictionary(
     Ok(column.indices)
 }
 
-/// Appends the messages of the dictionaries of the coded columns, for a batch of these rows, and answers the indices
-/// of each column's cells.
+/// Appends the messages of the dictionaries of the coded columns, for a batch of these rows, and returns the indices of
+/// each column's cells.
 pub(crate) fn write_dictionaries(
     alloc: Global,
     coded: &[usize],

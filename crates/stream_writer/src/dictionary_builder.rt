@@ -32,7 +32,7 @@ struct DictionaryBuilder<'a> {
 }
 
 impl<'a> DictionaryBuilder<'a> {
-    /// With room for the texts of `cells` cells.
+    /// With capacity for the texts of `cells` cells.
     fn with_capacity(alloc: Global, cells: usize) -> Result<DictionaryBuilder<'a>, AllocError>
         ensures texts { IfOk result (λ builder. texts_in builder.texts.keys ≡ []) }
         ensures values { IfOk result (λ builder. builder.values.items ≡ []) }

@@ -1,4 +1,4 @@
-//! Messages as they are put: the body of the last one as it was made, and what comes before it.
+//! Messages to be put: the body of the last one by itself, and what comes before it.
 
 ghost use Rattle.std.specs.Prelude.{◌≡◌, ◌+◌, ◌^◌, ◌<◌, ◌++◌, IfOk, length};
 ghost use Rattle.stream_writer.specs.WrittenSoFar.{PutsNext};
@@ -9,7 +9,7 @@ use crate::sink::Sink;
 use std::alloc::{AllocError, Global};
 use std::marker::Model;
 
-/// A body of at most so many bytes is put with what comes before it.
+/// A body of at most this many bytes is put together with what comes before it.
 const MAX_SHORT_BODY: usize = 4096;
 
 /// The bytes of some messages. Contracts see them as one list.
@@ -28,7 +28,7 @@ impl Model for Encoded {
 }
 
 impl Encoded {
-    /// The messages whose last one has this body, and has what comes before that at the end of `head`.
+    /// The messages of which the last has this body, and what comes before that at the end of `head`.
     pub(crate) fn new(
         alloc: Global,
         mut head: Vec<u8>,
@@ -46,12 +46,12 @@ impl Encoded {
         })
     }
 
-    /// The number of bytes of the body that is put by itself, as room for the next one.
+    /// The number of bytes of the body that is put by itself, as a capacity for the next one.
     pub(crate) fn room(&self) -> usize {
         self.body.len()
     }
 
-    /// Puts the messages after the `written` bytes that went out before.
+    /// Puts the messages after the first `written` bytes of a stream.
     pub(crate) fn put_after<S: Sink>(&self, sink: &mut S, written: u64) -> Result<u64, WriteFault>
         requires { written + length self.now < 2 ^ 64 }
         ensures counted { IfOk result (λ n. n ≡ written + length self.now) }

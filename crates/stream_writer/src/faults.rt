@@ -6,7 +6,7 @@ ghost use Rattle.stream_writer.specs.Sinks.{fault_after, written_of};
 use std::alloc::AllocError;
 use thiserror::Error;
 
-/// Why a stream was not written whole. `written` is how many bytes of its beginning the sink took.
+/// Why a stream was not written whole. The sink took its first `written` bytes.
 #[derive(Clone, Copy, Debug, PartialEq, Eq, Error)]
 pub enum WriteFault {
     #[error("memory ran out after {written} bytes were written")]
@@ -16,7 +16,7 @@ pub enum WriteFault {
 }
 
 impl WriteFault {
-    /// The same fault of a stream of which `before` bytes had gone out already.
+    /// The same fault of a stream of which `before` bytes had been put already.
     pub(crate) fn after(self, before: u64) -> WriteFault
         requires { before + written_of (Err self) < 2 ^ 64 }
         ensures { result ≡ fault_after before self }
@@ -32,7 +32,7 @@ impl WriteFault {
     }
 }
 
-/// The fault of memory that is refused before any byte went out.
+/// The fault of memory that is refused before any byte was put.
 impl From<AllocError> for WriteFault {
     ghost use Rattle.std.specs.Prelude.{◌≡◌};
     ghost use Rattle.stream_writer.specs.declared.faults.WriteFault.TheVariants.{Memory};

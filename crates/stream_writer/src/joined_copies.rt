@@ -1,4 +1,4 @@
-//! Copies of rows that lie each at a place of its own.
+//! Copies of rows that lie at single locations.
 
 ghost use Rattle.std.specs.Prelude.{◌≡◌, ◌<◌, [], IfOk, get_or, length, map};
 ghost use Rattle.values.specs.Datum.{null};

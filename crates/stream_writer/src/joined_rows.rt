@@ -15,7 +15,7 @@ ghost use Rattle.stream_writer.specs.JoinedRows.{
 use body_writer::LocatedRows;
 
 /// Rows of a main table, which have `width` cells, each followed by the cells of the row of a side table beside it.
-/// There are as many places in the side table. Where one is in no batch, the cells of the side table are null.
+/// There are as many locations in the side table. Where one is in no batch, the cells of the side table are null.
 #[derive(Clone, Copy)]
 pub struct JoinedRows<'a> {
     pub width: usize,
@@ -63,7 +63,7 @@ impl<'a> JoinedRows<'a> {
         }
     }
 
-    /// The rows of the table in which column `j` stands.
+    /// The rows of the table that has column `j`.
     pub(crate) fn half(&self, j: usize) -> &LocatedRows<'a>
         ensures { result.now ≡ half self.now j }
     {

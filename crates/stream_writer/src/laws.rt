@@ -25,14 +25,14 @@ ghost use Rattle.stream_writer.specs.RoundTrip.{
 };
 ghost use Rattle.stream_writer.specs.RowsLaw.{CodedRowsLaw, RowsLaw};
 
-/// The batches of a table, joined, are its rows. Each is within the limits on rows and weight, and none could have
-/// taken the next row too.
+/// The batches of a table, joined, are its rows. Each is within the limits on rows and weight, and none has room for
+/// the next row.
 pub fn cut_law()
     ensures { CutLaw }
 {}
 
-/// Whatever rows come later, the closed batches of the rows that are there are the first batches of the whole table;
-/// also where some columns are coded. Fewer than 1,024 rows are in none of them, and are within the limit on weight.
+/// Whatever rows come later, the closed batches of the rows so far are the first batches of the whole table; also where
+/// some columns are coded. Fewer than 1,024 rows are in none of them, and are within the limit on weight.
 pub fn closed_law()
     ensures { ClosedLaw }
 {}
@@ -45,8 +45,8 @@ pub fn batch_law()
     ensures none { NoneCodedBatch }
 {}
 
-/// The values of the dictionary that is written of a coded column are the texts of its cells in the batch, no two of them
-/// equal, in order of first appearance; the index of a cell is the place of its text.
+/// The values of the dictionary that is written of a coded column are the texts of its cells in the batch, no two of
+/// them equal, in order of first appearance; the index of a cell is the position of its text.
 pub fn values_law()
     ensures texts { AreTheTexts }
     ensures different { DifferInPairs }

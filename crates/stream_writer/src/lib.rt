@@ -1,9 +1,9 @@
 //! Writing a table as its canonical stream.
 //!
 //! `specs/Stream.antt` says which bytes these are, `specs/Coding.antt` which values and indices coded columns have,
-//! `specs/Sinks.antt` what a writer does to a sink, `specs/Table.antt` which tables can be written,
-//! `specs/CutLaw.antt` what the cut into batches keeps, `specs/ClosedBatches.antt` which batches no later row changes,
-//! and `specs/TableWriters.antt` how far a table is written whose rows come batch by batch.
+//! `specs/Sinks.antt` what a writer does to a sink, `specs/Table.antt` which tables can be written, `specs/CutLaw.antt`
+//! what holds of the cut into batches, `specs/ClosedBatches.antt` which batches no later row changes, and
+//! `specs/TableWriters.antt` how far a table is written whose rows come batch by batch.
 #![tactic(auto)]
 
 mod batch_rows;

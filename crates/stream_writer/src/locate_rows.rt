@@ -1,4 +1,4 @@
-//! Rows that lie each at a place of its own in batches, of which some columns are written.
+//! Rows that lie at single locations in batches, of which some columns are written.
 
 ghost use Rattle.std.specs.Prelude.{◌≡◌, ◌^◌, ◌≤◌, All, IfOk, [], length, take};
 ghost use Rattle.values.specs.Rose.{kids_of};
@@ -50,7 +50,8 @@ fn located_columns<'a>(
     Ok(placed)
 }
 
-/// The RecordBatch message of the first `count` of these rows. Room for `room` bytes of its body is made at once.
+/// The RecordBatch message of the first `count` of these rows. Capacity for `room` bytes of its body is reserved at
+/// once.
 fn encode_locations(
     alloc: Global,
     layouts: &[LayoutTree],

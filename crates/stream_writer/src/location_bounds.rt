@@ -1,4 +1,4 @@
-//! Bounds on the weights of rows that lie each at a place of its own, by all cells of their batches.
+//! Bounds on the weights of rows that lie at single locations, from all cells of their batches.
 
 ghost use Rattle.std.specs.Prelude.{◌≡◌, ◌+◌, ◌≤◌, IfOk, IfSome, length, true};
 ghost use Rattle.values.specs.Limits.{max_cell_weight};
@@ -16,7 +16,8 @@ use std::alloc::{AllocError, Global};
 use values::limits::MAX_CELL_WEIGHT;
 use values::{LayoutTree, null_weight};
 
-/// A weight that no cell in column `j` of a batch is above as a value of this layout, or `None` where nothing is known.
+/// An upper bound on the weights of the cells in column `j` of a batch, as values of this layout, or `None` where
+/// nothing is known.
 fn bound_in(layout: &LayoutTree, j: usize, batch: &Batch) -> Option<u64>
     ensures bound { IfSome result (BoundsBatch layout.now j batch.now) }
     ensures small { IfSome result (λ most. most ≤ max_cell_weight + 4) }
@@ -27,8 +28,8 @@ fn bound_in(layout: &LayoutTree, j: usize, batch: &Batch) -> Option<u64>
     }
 }
 
-/// A weight that neither a null nor a cell in column `j` of these batches is above as a value of this layout, or `None`
-/// where nothing is known.
+/// An upper bound on the weights of a null and of the cells in column `j` of these batches, as values of this layout,
+/// or `None` where nothing is known.
 fn bound_column(layout: &LayoutTree, j: usize, batches: &[&Batch]) -> Option<u64>
     ensures { IfSome result (BoundsColumn layout.now j batches.now) }
 {

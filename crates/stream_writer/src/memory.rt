@@ -1,4 +1,4 @@
-//! A sink that keeps its bytes in memory.
+//! A sink that stores its bytes in memory.
 
 ghost use Rattle.std.specs.Prelude.{◌≡◌, ◌+◌, [], IfErr, IfOk, length, min};
 ghost use Rattle.stream_writer.specs.Sinks.{Puts, sunk_of};
@@ -6,7 +6,7 @@ ghost use Rattle.stream_writer.specs.Sinks.{Puts, sunk_of};
 use crate::sink::{DeviceFault, Sink};
 use std::alloc::Global;
 
-/// A sink that keeps what it took. It can be made to fail, as devices do.
+/// A sink that stores what it took. It can be made to fail, as devices do.
 #[derive(Drop)]
 pub struct MemorySink {
     bytes: Vec<u8>,
@@ -16,7 +16,7 @@ pub struct MemorySink {
 }
 
 impl MemorySink {
-    /// A sink that takes all that memory has room for.
+    /// A sink that takes all that fits into memory.
     pub fn new(alloc: Global) -> Self
         ensures bytes { result.bytes.items ≡ [] }
         ensures limits { (result.portion ≡ usize.MAX) × (result.puts ≡ u64.MAX) × (result.failed ≡ 0) }
@@ -24,8 +24,8 @@ impl MemorySink {
         MemorySink::with_limit(alloc, usize::MAX, u64::MAX)
     }
 
-    /// A sink that takes at most `portion` bytes a put, and fails after `puts` puts. With a portion of 0
-    /// it answers 0, which is a failure too.
+    /// A sink that takes at most `portion` bytes a put, and fails after `puts` puts. With a portion of 0 it returns 0,
+    /// which is a failure too.
     pub fn with_limit(alloc: Global, portion: usize, puts: u64) -> Self
         ensures bytes { result.bytes.items ≡ [] }
         ensures limits { (result.portion ≡ portion) × (result.puts ≡ puts) × (result.failed ≡ 0) }
@@ -49,7 +49,7 @@ impl MemorySink {
 impl Sink for MemorySink {
     ghost sunk = { λ s. sunk_of s.bytes.items s.failed };
 
-    /// Takes what its portion leaves of the piece. It fails after its last put, and where memory is refused.
+    /// Takes as much of the piece as its portion allows. It fails after its last put, and where memory is refused.
     fn put(&mut self, piece: &[u8]) -> Result<usize, DeviceFault>
         ensures puts { Puts (sunk_of self.old.bytes.items self.old.failed)
             (sunk_of self.new.bytes.items self.new.failed) result piece.now }

@@ -99,7 +99,7 @@ fn range_pair(range: &BufferRange) -> [u8; 16]
     bytes
 }
 
-/// The RecordBatch message of `rows` rows with this body, after the messages that `head` has.
+/// The RecordBatch message of `rows` rows with this body, after the messages in `head`.
 pub(crate) fn record_message(
     alloc: Global,
     rows: usize,

@@ -20,14 +20,15 @@ use values::{LayoutTree, Schema};
 /// The end mark: the continuation mark, and a metadata size of 0.
 const END_MARK: [u8; 8] = [255, 255, 255, 255, 0, 0, 0, 0];
 
-/// How far a writer has come: so many bytes are out, and the last `left` rows that were given to it are in none of them.
+/// How far a writer has come: this many bytes were put, and the last `left` rows that were given to it are in none of
+/// them.
 #[derive(Clone, Copy)]
 pub(crate) struct Progress {
     pub written: u64,
     pub left: usize,
 }
 
-/// Puts bytes after the `written` ones that went out before.
+/// Puts bytes after the first `written` ones of a stream.
 pub(crate) fn put_after<S: Sink>(
     sink: &mut S,
     bytes: &[u8],
@@ -43,7 +44,7 @@ pub(crate) fn put_after<S: Sink>(
     }
 }
 
-/// Puts the Schema message of a table of which no row came yet, and returns how many bytes it has.
+/// Puts the Schema message of a table without rows so far, and returns how many bytes it has.
 pub(crate) fn put_schema<S: Sink>(
     alloc: Global,
     sink: &mut S,
@@ -58,17 +59,17 @@ pub(crate) fn put_schema<S: Sink>(
     put_after(sink, &message, 0)
 }
 
-/// Whether the next batch, which has `count` of the `rows` rows that are left, stays as it is when more come.
+/// Whether the next batch, which has `count` of the `rows` remaining rows, stays as it is when more come.
 fn is_closed(count: usize, rows: usize) -> bool
     ensures { result ≡ ((count == max_batch_rows) || nat_lt count rows) }
 {
     count == MAX_BATCH_ROWS || count < rows
 }
 
-/// Puts those batches of the rows that stay as they are when more rows come, after the `written` bytes that went out
-/// before. Fewer rows are left then than a batch may have.
+/// Puts those batches of the rows that stay as they are when more rows come, after the first `written` bytes of a
+/// stream. Fewer rows than a batch may have remain then.
 ///
-/// On an error the sink took a beginning of the canonical stream of each table that begins with the rows so far.
+/// On an error the sink took a prefix of the canonical stream of each table that begins with the rows so far.
 pub(crate) fn put_closed<S: Sink, R: RowSource + Drop>(
     alloc: Global,
     sink: &mut S,
@@ -104,8 +105,8 @@ pub(crate) fn put_closed<S: Sink, R: RowSource + Drop>(
     })
 }
 
-/// Puts the batches of all rows that are left, and the end mark, after the `written` bytes that went out before.
-/// Returns how many bytes are out then.
+/// Puts the batches of all remaining rows, and the end mark, after the first `written` bytes of a stream. Returns the
+/// length of the stream.
 pub(crate) fn put_rest<S: Sink, R: RowSource + Drop>(
     alloc: Global,
     sink: &mut S,

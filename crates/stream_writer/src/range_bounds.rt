@@ -34,7 +34,7 @@ fn weigh_cells(column: &Column, from: usize, to: usize) -> u64
     most
 }
 
-/// A weight that none of these cells is above; the limit of a cell plus 1 where nothing is known. It reads at most a
+/// An upper bound on the weights of these cells; the limit of a cell plus 1 where nothing is known. It reads at most a
 /// constant factor more cells than these.
 fn bound_cells(column: &Column, from: usize, to: usize) -> u64
     requires { to ≤ length column.now.cells }
@@ -46,8 +46,8 @@ fn bound_cells(column: &Column, from: usize, to: usize) -> u64
     weigh_cells(column, from, to)
 }
 
-/// A weight that none of these cells is above as a value of this layout, or `None` where nothing is known: of lists and
-/// structs, whose items may lie in other layouts, and above the limit of a cell.
+/// An upper bound on the weights of these cells as values of this layout, or `None` where nothing is known: of lists
+/// and structs, whose items may lie in other layouts, and above the limit of a cell.
 pub(crate) fn bound_values(
     layout: &LayoutTree,
     column: &Column,

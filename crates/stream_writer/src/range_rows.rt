@@ -26,7 +26,7 @@ pub(crate) struct RangeRows<'a> {
     pub left: usize,
 }
 
-/// The place of a row: so many ranges lie before the one with it, of which it is row `from`.
+/// The position of a row: how many ranges come before the one with it, of which it is row `from`.
 #[derive(Clone, Copy)]
 struct RangePosition {
     ranges: usize,
@@ -42,7 +42,7 @@ fn rows_in(range: &RowRange) -> usize
     range.to - range.from
 }
 
-/// The place of row `from`, counted through all ranges.
+/// The position of row `from`, counted through all ranges.
 fn find_range(ranges: &[RowRange], from: usize) -> RangePosition
     requires { (n : ℕ) × All (IsRange n) ranges.now }
     ensures within { result.ranges ≤ length ranges.now }
@@ -100,7 +100,8 @@ fn cut_ranges<'a>(
     Ok(cut)
 }
 
-/// The RecordBatch message of the first `count` of these rows. Room for `room` bytes of its body is made at once.
+/// The RecordBatch message of the first `count` of these rows. Capacity for `room` bytes of its body is reserved at
+/// once.
 fn encode_ranges(
     alloc: Global,
     layouts: &[LayoutTree],

@@ -5,7 +5,7 @@ use crate::encoded::Encoded;
 use std::alloc::{AllocError, Global};
 use values::{LayoutTree, Row};
 
-/// Rows that are left to be written.
+/// Rows that remain to be written.
 pub(crate) trait RowSource {
     ghost use Rattle.std.specs.Prelude.{◌≡◌, ℕ, ◌*◌, ◌==◌, ◌^◌, ◌≤◌, All, IfOk, List, length, take, drop};
     ghost use Rattle.values.specs.Limits.{max_row_weight};
@@ -23,12 +23,12 @@ pub(crate) trait RowSource {
     // what must hold of the rows, where the columns have these layouts
     ghost fits: { Self → List (Rose Layout) → Type 0 };
 
-    /// Whether no row is left.
+    /// Whether no row remains.
     fn is_empty(&self) -> bool
         requires { (ls : List (Rose Layout)) × fits self.now ls }
         ensures { result ≡ (length (rows self.now) == 0) };
 
-    /// How many rows are left.
+    /// How many rows remain.
     fn len(&self) -> usize
         requires { (ls : List (Rose Layout)) × fits self.now ls }
         ensures { result ≡ length (rows self.now) };
@@ -40,8 +40,8 @@ pub(crate) trait RowSource {
         ensures value { result ≡ batch_len (kids_of layouts.now) (rows self.now) }
         ensures bound { result ≤ length (rows self.now) };
 
-    /// The messages of the batch of the first `count` rows: dictionaries, and the record batch. Room for `room` bytes of
-    /// its body is made at once.
+    /// The messages of the batch of the first `count` rows: dictionaries, and the record batch. Capacity for `room`
+    /// bytes of its body is reserved at once.
     fn encode_batch(
         &self,
         alloc: Global,

@@ -12,15 +12,15 @@ pub struct DeviceFault;
 
 /// Takes bytes, as a file or a socket does.
 ///
-/// An impl says by `sunk` which bytes it has taken, where it can tell, and how often it failed. Since a
-/// value can't count for ever, failures are counted modulo 2^64.
+/// An impl says by `sunk` which bytes it has taken, where it knows that, and how often it failed. Failures are counted
+/// modulo 2^64.
 pub trait Sink {
     ghost use Rattle.stream_writer.specs.Sinks.{Sunk, Puts};
 
     ghost sunk: { Self → Sunk };
 
-    /// Takes some first bytes of the piece, and returns how many. An error, or 0 for a piece that is
-    /// not empty, is one failure.
+    /// Takes a prefix of the piece, and returns its length. An error, or 0 for a piece that is not empty, is one
+    /// failure.
     fn put(&mut self, piece: &[u8]) -> Result<usize, DeviceFault>
         ensures { Puts (sunk self.old) (sunk self.new) result piece.now };
 }

@@ -31,7 +31,7 @@ use values::{LayoutTree, Row, Schema};
 
 /// Writes the canonical stream of a table, and returns its length in bytes.
 ///
-/// On an error the sink took a beginning of that stream: `written` bytes.
+/// On an error the sink took a prefix of that stream: `written` bytes.
 pub fn write_table<S: Sink>(
     alloc: Global,
     sink: &mut S,
@@ -48,7 +48,7 @@ pub fn write_table<S: Sink>(
 /// Writes the canonical stream of a table in which the columns at some positions are coded, and returns its length in
 /// bytes. The positions ascend, and the columns there hold texts.
 ///
-/// On an error the sink took a beginning of that stream: `written` bytes.
+/// On an error the sink took a prefix of that stream: `written` bytes.
 pub fn write_coded<S: Sink>(
     alloc: Global,
     sink: &mut S,
@@ -73,9 +73,9 @@ pub fn write_coded<S: Sink>(
 }
 
 /// Writes the canonical stream of a table whose `rows` rows lie in batches of checked columns, and returns its length
-/// in bytes. None of the rows may be so heavy that a batch would have fewer than 1,024 rows for it.
+/// in bytes. None of the rows may be so heavy that a batch with it would have fewer than 1,024 rows.
 ///
-/// On an error the sink took a beginning of that stream: `written` bytes.
+/// On an error the sink took a prefix of that stream: `written` bytes.
 pub fn write_batches<S: Sink>(
     alloc: Global,
     sink: &mut S,
@@ -102,7 +102,7 @@ pub fn write_batches<S: Sink>(
 /// Writes the canonical stream of a table whose rows lie in batches of checked columns and have these weights, and
 /// returns its length in bytes.
 ///
-/// On an error the sink took a beginning of that stream: `written` bytes.
+/// On an error the sink took a prefix of that stream: `written` bytes.
 pub fn write_weighed_batches<S: Sink>(
     alloc: Global,
     sink: &mut S,
@@ -127,10 +127,10 @@ pub fn write_weighed_batches<S: Sink>(
 
 /// Writes the canonical stream of a table whose `rows` rows lie in these ranges of batches of checked columns, and
 /// returns its length in bytes. Its columns are those of the batches at these positions, in this order. Cells are
-/// copied where a row may be so heavy that a batch would have fewer than 1,024 rows for it, and where there are lists
+/// copied where a row may be so heavy that a batch with it would have fewer than 1,024 rows, and where there are lists
 /// or structs.
 ///
-/// On an error the sink took a beginning of that stream: `written` bytes.
+/// On an error the sink took a prefix of that stream: `written` bytes.
 pub fn write_ranges<S: Sink>(
     alloc: Global,
     sink: &mut S,
@@ -160,12 +160,12 @@ pub fn write_ranges<S: Sink>(
     write_messages(alloc, sink, schema, &[], &layouts, left)
 }
 
-/// Writes the canonical stream of a table whose rows are these ones of a main table with rows of a side table beside
+/// Writes the canonical stream of a table whose rows are these rows of a main table with rows of a side table beside
 /// them, and returns its length in bytes. Its columns are those of the joined rows at these positions, in this order:
-/// the main table's come first, then the side table's. Cells are copied where a row may be so heavy that a batch would
-/// have fewer than 1,024 rows for it, and where there are lists or structs.
+/// the main table's come first, then the side table's. Cells are copied where a row may be so heavy that a batch with
+/// it would have fewer than 1,024 rows, and where there are lists or structs.
 ///
-/// On an error the sink took a beginning of that stream: `written` bytes.
+/// On an error the sink took a prefix of that stream: `written` bytes.
 pub fn write_locations<S: Sink>(
     alloc: Global,
     sink: &mut S,

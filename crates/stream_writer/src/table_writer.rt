@@ -50,8 +50,9 @@ use body_writer::Batch;
 use std::alloc::{AllocError, Global};
 use values::{LayoutTree, Schema};
 
-/// A table that is written while its rows come. The batches that later rows can't change are out; the rows after them
-/// are held, in the batches in which they came. They are fewer than 1,024, and lie in no more batches than they are.
+/// A table that is written while its rows come. The batches that later rows can't change were put; the rows after them
+/// are held, in the batches in which they came. They are fewer than 1,024, and there are no more of these batches than
+/// rows.
 #[derive(Drop)]
 pub struct TableWriter {
     layouts: Vec<LayoutTree>,
@@ -63,9 +64,9 @@ pub struct TableWriter {
 }
 
 impl TableWriter {
-    /// Puts the Schema message of a table with these columns, of which no row came yet.
+    /// Puts the Schema message of a table with these columns, without rows so far.
     ///
-    /// On an error the sink took a beginning of that message.
+    /// On an error the sink took a prefix of that message.
     pub fn begin<S: Sink>(
         alloc: Global,
         sink: &mut S,
@@ -89,11 +90,11 @@ impl TableWriter {
         })
     }
 
-    /// Takes the rows of the next batch, none of which weighs more than `heaviest`, and puts the batches that no later
-    /// row can change.
+    /// Accepts the rows of the next batch, none of which weighs more than `heaviest`, and puts the batches that no
+    /// later row can change.
     ///
-    /// On an error the sink took a beginning of the canonical stream of each table that begins with the rows so far, and
-    /// the writer is of no more use.
+    /// On an error the sink took a prefix of the canonical stream of each table that begins with the rows so far, and
+    /// the writer must not be used again.
     pub fn take<S: Sink>(
         &mut self,
         alloc: Global,
@@ -127,7 +128,7 @@ impl TableWriter {
         }
     }
 
-    /// How many bytes are out.
+    /// How many bytes were put.
     pub fn written(&self) -> u64
         ensures { result ≡ self.now.written }
     {
@@ -149,7 +150,7 @@ impl TableWriter {
         }
     }
 
-    /// Adds a batch to those that are held, if it has a row, and weighs its rows where one of the held rows is not light.
+    /// Adds a batch to the held ones, if it has a row, and weighs its rows where one of the held rows is not light.
     fn hold(&mut self, alloc: Global, batch: Batch, heaviest: u64) -> Result<(), AllocError>
         requires comes { (start : Sunk) × (now : Sunk) × (fs : List (Rose NamedType)) × (rows : List (List Datum))
             × Holds start now fs rows self.old × MayCome fs rows batch heaviest }
@@ -172,7 +173,7 @@ impl TableWriter {
         Ok(())
     }
 
-    /// Lets go of the first `count` held rows, and of each batch that has no other.
+    /// Drops the first `count` held rows, and each batch that has no other.
     fn release(&mut self, count: usize) -> Result<(), AllocError>
         requires within { count ≤ length (rows_held self.old) }
         requires place { self.old.from ≤ length (rows_of self.old.held.items) }
@@ -201,9 +202,9 @@ impl TableWriter {
         Ok(())
     }
 
-    /// Puts the held rows and the end mark, since no more rows come, and returns how many bytes the whole stream has.
+    /// Puts the held rows and the end mark, and returns the length of the whole stream in bytes.
     ///
-    /// On an error the sink took a beginning of that stream: `written` bytes.
+    /// On an error the sink took a prefix of that stream: `written` bytes.
     pub fn end<S: Sink>(self, alloc: Global, sink: &mut S) -> Result<u64, WriteFault>
         requires writing { (start : Sunk) × (fs : List (Rose NamedType)) × (rows : List (List Datum))
             × IsWriting start (S.sunk sink.old) fs rows self }

@@ -1,4 +1,4 @@
-//! A table that comes batch by batch, cut at several places.
+//! A table that comes batch by batch, cut in several ways.
 
 ghost use Rattle.std.specs.Prelude.{◌≡◌, ◌+◌, ◌^◌, ◌≤◌, All, IfOk, List, [], OnOk, length};
 ghost use Rattle.values.specs.Datum.{Datum};
@@ -54,7 +54,7 @@ fn write_parts<S: Sink>(
     writer.end(alloc, sink)
 }
 
-/// Writes rows that are there at once.
+/// Writes rows that come at once.
 fn write_at_once<S: Sink>(alloc: Global, sink: &mut S, count: usize) -> Result<u64, WriteFault>
     requires { count ≤ 2 ^ 24 }
 {

@@ -50,8 +50,8 @@ pub fn weights_in(alloc: Global, batches: &[Batch]) -> Result<Vec<u64>, AllocErr
     Ok(weights)
 }
 
-/// Adds the weights of a batch, of whose rows none is above `heaviest`, to those of the rows from row `from` on of the
-/// batches before it. None is kept as long as all rows are light.
+/// Adds the weights of a batch, none of whose rows weighs more than `heaviest`, to those of the rows from row `from` on
+/// of the batches before it. No weights are stored as long as all rows are light.
 pub(crate) fn add_weights(
     alloc: Global,
     before: &[Batch],

@@ -1,4 +1,4 @@
--- The parts of a filter that must all be true, in a list.
+-- The conjuncts of a filter, in a list.
 use Rattle.std.proofs.Common.{◌≡◌, List, [], ◌∷◌, refl, ap}
 use Rattle.view_lang.specs.Filter.{Filter, parts_of}
 use Rattle.sub_groups.specs.FilterParts.{parts_in}

@@ -147,7 +147,7 @@ pub passes_both : (n : ℕ) (f : Option Filter) (row : List Datum)
 passes_both n f row =
     passes_parts f row ∙ sym (any_split (is_main_part n) (λ g. not (is_true (truth row g))) (conjuncts f))
 
--- Rows of which the parts say the same.
+-- Rows on which the parts have the same truths.
 
 any_alike_by : {X : Type 0} (p q : X → Bool) (xs : List X) → AllByRecursion (λ x. p x ≡ q x) xs
     → list_any p xs ≡ list_any q xs

@@ -39,7 +39,7 @@ some-main n k (o ∷ os) none some =
     either-main (is_main n k ≡ true) (reads o.aggregate k) (is_read os k) (reads_side n o.aggregate) (read_side n os)
     none some (λ here main. one-main n k o.aggregate here main) (λ there main. some-main n k os main there)
 
--- So are the columns of which groups with these outputs keep something.
+-- So are the columns that groups with these outputs accumulate.
 all-main : (n : ℕ) (outs : List GroupOutput) (columns : List AccumulatedColumn) → read_side n outs ≡ false
     → AreReadBy outs columns → list_any (λ c. not (is_main n c.column)) columns ≡ false
 all-main n outs [] none read = refl
@@ -57,7 +57,7 @@ flipped : (c : Bool) → not c ≡ true → c ≡ false
 flipped false h = refl
 flipped true h = absurd (true≢false (sym h))
 
--- Where a view can't be kept by sub-groups, it isn't one that moves rows together.
+-- Where a view can't be kept by sub-groups, it doesn't move them.
 pub unmoved :
     (n : ℕ) (outs : List GroupOutput) (columns : List AccumulatedColumn) (on decided : Bool) → AreReadBy outs columns
     → (on && (are_main n columns && decided)) ≡ false → (on && (not (read_side n outs) && decided)) ≡ false

@@ -1,4 +1,4 @@
--- The cells of a row that stands for a sub-group.
+-- The cells of representatives.
 use Rattle.std.proofs.Common.{
   ◌≡◌,
   ℕ,
@@ -49,7 +49,7 @@ place_above i (j ∷ js) k p h = go (j == k) h (λ e. place_above (suc i) js k p
 cell_of_none : (k : ℕ) → cell_at [] k ≡ null
 cell_of_none k = refl
 
--- the cell at a place, counted from i
+-- the cell at an index, counted from i
 abbrev cell_from : ℕ → List Datum → Option ℕ → Datum
 cell_from i cells None = null
 cell_from i cells (Some p) = cell_at cells (p - i)

@@ -1,4 +1,4 @@
--- A row that stands for a sub-group is joined, filtered and grouped as the sub-group's rows are.
+-- A representative is joined, filtered and grouped as the sub-group's rows are.
 use Rattle.std.proofs.Common.{
   ◌≡◌,
   ℕ,
@@ -73,7 +73,7 @@ use Rattle.sub_groups.specs.SubGroups.{
 }
 use Rattle.sub_groups.proofs.FilterSplit.{both_true, main_alike, others_alike, passes_both}
 
--- Rows that stand for sub-groups.
+-- Representatives of sub-groups.
 
 length_stand : (keys : List ℕ) (cells : List Datum) (i m : ℕ) → length (representative_from keys cells i m) ≡ m
 length_stand keys cells i zero = refl
@@ -98,7 +98,7 @@ stands (c ∷ cs) row k h = go (c == k) refl h (stands cs row k)
     go true e h i = ap (cell_at row) (true-eqb c k (sym e))
     go false e h i = i h
 
--- Cells of rows with more behind them.
+-- Cells of rows with more after them.
 
 past : (xs ys more : List Datum) (k : ℕ) → length xs ≡ length ys → length xs ≤ k
     → cell_at (xs ++ more) k ≡ cell_at (ys ++ more) k
@@ -201,7 +201,7 @@ tuple_alike p [] x y same h = refl
 tuple_alike p (k ∷ ks) x y same h =
     ap₂ (λ d ds. d ∷ ds) (ap key_in (same k h.0)) (tuple_alike p ks x y same h.1)
 
--- What passes a test that none fails.
+-- Conjuncts that none fails.
 
 all_pass : {X : Type 0} (p : X → Bool) (xs : List X) → not (list_any (λ x. not (p x)) xs) ≡ true
     → AllByRecursion (λ x. p x ≡ true) xs
@@ -219,9 +219,9 @@ columns_within n columns h =
     All-weaker (λ c. is_main n c.column ≡ true) (λ c. c.column < n) (λ c is. ltb-true c.column n is) columns
     (All-from_recursion (λ c. is_main n c.column ≡ true) columns (all_pass (λ c. is_main n c.column) columns h))
 
--- What is made of a row, and of the row that stands for it.
+-- The projected rows of a row, and of its representative.
 
--- The two are left out, or both are there, with one grouping tuple, and the first has the cells of the row.
+-- The two are left out, or both are in the view, with one grouping tuple, and the first has the cells of the row.
 abbrev IsAlike : ℕ → List ℕ → List Datum → Option (List Datum) → Option (List Datum) → Type 0
 IsAlike n by row None None = Unit {0}
 IsAlike n by row None (Some r) = ⊥
@@ -288,7 +288,7 @@ module _ (n : ℕ) (v : View) (l : Lookup) (by : List ℕ) (columns : List Accum
         (at_key n keys row t wide keyed same l.on can.on (own_key l.on _))
         (alike_more (or_missing l.missing l.columns (side (cell_at row l.on)))))
 
--- Lists of rows, and what is made of them.
+-- Lists of rows, and their projected rows.
 
 some_is : {X : Type 0} (x y : X) → Some x ≡ Some y → x ≡ y
 some_is x y h = cc h

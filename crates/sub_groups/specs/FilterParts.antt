@@ -43,12 +43,12 @@ abbrev mutual
   name_only p no_part = true
   name_only p (part f fs) = names_only p f && name_only p fs
 
--- whether a column of joined rows is the main table's, which has n columns
+-- whether a column of joined rows is one of the main table, which has n columns
 abbrev pub is_main : ℕ → ℕ → Bool
 is_main n k = nat_lt k n
 
--- whether it is the same for all rows that are alike in these columns of the main table: it is one of them, or the side
--- table's
+-- whether it is known from these columns of the main table, so that it is the same for all rows that are alike in them:
+-- it is one of them, or the side table's
 abbrev pub is_known : ℕ → List ℕ → ℕ → Bool
 is_known n keys k = not (is_main n k) || list_any (λ j. j == k) keys
 
@@ -68,7 +68,7 @@ parts_of_filter (negation f) = negation f ∷ []
 parts_of_filter (all_of fs) = parts_in fs
 parts_of_filter (one_of fs) = one_of fs ∷ []
 
--- the parts of a filter that must all be true
+-- the conjuncts of a filter, which must all be true
 abbrev pub conjuncts : Option Filter → List Filter
 conjuncts None = []
 conjuncts (Some f) = parts_of_filter f
@@ -96,7 +96,7 @@ abbrev pub fails : Parts → ℕ → List Datum → Filter → Bool
 fails parts.Main = fails_main
 fails parts.Others = fails_other
 
--- whether each part names columns of the main table alone, or none but such as are known
+-- whether a part names columns of the main table alone, or known columns alone
 abbrev pub is_decided : ℕ → List ℕ → Filter → Bool
 is_decided n keys f = is_main_part n f || names_only (is_known n keys) f
 

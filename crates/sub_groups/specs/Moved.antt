@@ -21,7 +21,7 @@ is_side n (Some k) = not (is_main n k)
 abbrev pub reads_side : ℕ → Aggregate → Bool
 reads_side n a = is_side n (column_read a)
 
--- whether one of these outputs does so
+-- whether one of these outputs does
 abbrev pub read_side : ℕ → List GroupOutput → Bool
 read_side n outs = list_any (λ o. reads_side n o.aggregate) outs
 
@@ -37,7 +37,7 @@ moves_by n (Some l) filter (groups by outputs having) =
 abbrev pub is_moved : ℕ → View → Bool
 is_moved n v = moves_by n v.lookup v.filter v.outputs
 
--- Groups with these outputs keep something of columns alone that an output reads.
+-- Groups with these outputs accumulate only columns that an output reads.
 abbrev pub KeepRead : Outputs → List AccumulatedColumn → Type 0
 KeepRead (columns outputs) kept = Unit {0}
 KeepRead (groups by outputs having) kept = AreReadBy outputs kept

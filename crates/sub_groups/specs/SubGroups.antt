@@ -53,12 +53,12 @@ use Rattle.sub_groups.specs.declared.sub_groups.SubGroups.{SubGroups}
 abbrev pub sub_keys : ℕ → Lookup → List ℕ → List ℕ
 sub_keys n l by = l.on ∷ filter (λ k. is_main n k && not (k == l.on)) by
 
--- whether something is kept of columns of the main table alone
+-- whether these columns are the main table's alone
 abbrev pub are_main : ℕ → List AccumulatedColumn → Bool
 are_main n columns = not (list_any (λ c. not (is_main n c.column)) columns)
 
--- A view of groups by these columns, which keep something of these, can be kept by sub-groups, where the main table has
--- n columns.
+-- A view with groups by these columns, which accumulate those, can be kept by sub-groups, where the main table has n
+-- columns.
 pub record CanSubGroup
     (n : ℕ) (v : View) (l : Lookup) (by : List ℕ) (columns : List AccumulatedColumn) :
     Type 0 where
@@ -67,7 +67,7 @@ pub record CanSubGroup
   pub decided : are_decided n (sub_keys n l by) (conjuncts v.filter) ≡ true
   pub of_main : are_main n columns ≡ true
 
--- Sub-groups are such as a view of groups can be kept by, where the main table has n columns.
+-- Sub-groups by which a view of groups can be kept, where the main table has n columns.
 pub record AreSubGroups (n : ℕ) (v : View) (s : SubGroups) : Type 0 where
   pub look : Lookup
   pub by : List ℕ
@@ -81,7 +81,7 @@ pub record AreSubGroups (n : ℕ) (v : View) (s : SubGroups) : Type 0 where
 abbrev pub KeepsSubGroups : SubGroups → NumberedRows → Type 0
 KeepsSubGroups s rows = Keeps s.groups (values_of rows)
 
--- Of what and by what they are made is the same.
+-- The columns by which they are made, and those that they accumulate, are the same.
 pub record IsSame (old new : SubGroups) : Type 0 where
   pub keys : new.groups.keys ≡ old.groups.keys
   pub columns : new.groups.columns ≡ old.groups.columns
@@ -90,7 +90,7 @@ pub record IsSame (old new : SubGroups) : Type 0 where
 abbrev pub sub_groups_with : GroupsParts → SubGroups
 sub_groups_with p = record { groups = grouped_with p }
 
--- the row, if it passes what the main table decides alone of a view's filter: it is in a sub-group
+-- the row, if it passes the part of a view's filter that the main table decides alone: it is in a sub-group
 abbrev pub sub_row : ℕ → View → List Datum → Option (List Datum)
 sub_row n v row = cond (passes_main n v.filter row) (Some row) None
 
@@ -104,7 +104,7 @@ pub record IsSubRow (n : ℕ) (v : View) (keys : List ℕ) (row : List Datum) : 
   pub main : IsMainRow n keys row
   pub passes : passes_main n v.filter row ≡ true
 
--- What the view makes of these rows has this grouping tuple, or they are left out.
+-- The projected rows of these rows have this grouping tuple, or they are left out.
 pub record ArePlaced
     (by : List ℕ) (columns : List AccumulatedColumn) (place : Option (List Datum)) (rows made : List (List Datum)) :
     Type 0 where
@@ -112,7 +112,7 @@ pub record ArePlaced
   pub some : (r : List Datum) → place ≡ Some r → All (λ row. tuple_of by row ≡ tuple_of by r) made
   pub kept : IsSome place → (g : GroupCounts) → KeepsRows columns g rows → KeepsRows columns g made
 
--- The rows of a sub-group go where the row goes that stands for them.
+-- The rows of a sub-group belong to the group of its representative.
 abbrev pub SubGroupsArePlaced : Type 0
 SubGroupsArePlaced =
     (n : ℕ) (v : View) (l : Lookup) (by : List ℕ) (columns : List AccumulatedColumn) (side : Side) (rows : List (List Datum))
@@ -121,7 +121,7 @@ SubGroupsArePlaced =
     → ArePlaced by columns (representative_row n v side (sub_keys n l by) t) (members (sub_keys n l by) t rows)
     (filter_map (passing_row v side) (members (sub_keys n l by) t rows))
 
--- Of a row that is in no sub-group the view makes nothing.
+-- A row that is in no sub-group isn't in the view.
 abbrev pub OthersAreLeftOut : Type 0
 OthersAreLeftOut =
     (n : ℕ) (v : View) (side : Side) (row : List Datum) → length row ≡ n → passes_main n v.filter row ≡ false
@@ -131,8 +131,8 @@ OthersAreLeftOut =
 abbrev pub rows_but : List ℕ → List (List Key) → List (List Datum) → List (List Datum)
 rows_but keys out rows = filter (λ row. not (list_any (is_at (tuple_cmp (tuple_of keys row))) out)) rows
 
--- A sub-group more is out: the rows that are in none of those out before are its own, and those in none that are out
--- now.
+-- One more sub-group is removed: the rows that are in none of those removed before are its own, and those in none that
+-- are removed now.
 abbrev pub SubGroupsPart : Type 0
 SubGroupsPart =
     (keys : List ℕ) (make : List Datum → Option (List Datum)) (rows : List (List Datum)) (t : List Key)

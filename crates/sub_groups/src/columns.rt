@@ -10,7 +10,7 @@ use view_lang::{Filter, Operand, Test};
 /// Some columns of joined rows. The columns of the main table come first; it has `width`.
 #[derive(Clone, Copy)]
 pub(crate) enum Columns<'a> {
-    /// Those of the main table.
+    /// All columns of the main table.
     Main { width: usize },
     /// These of the main table, and those of the side table.
     Known { width: usize, keys: &'a [usize] },
@@ -63,7 +63,7 @@ pub(crate) fn names_only(filter: &Filter, columns: Columns<'_>) -> bool
     }
 }
 
-/// Whether all of the filters do so.
+/// Whether all of the filters name none but these.
 #[cycle(names_only)]
 #[tactic(auto, using(view_lang::proofs::Truths::part_smaller))]
 fn name_only(parts: &[Filter], columns: Columns<'_>) -> bool

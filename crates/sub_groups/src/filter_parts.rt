@@ -38,7 +38,7 @@ fn fails_one<R: RowView>(filters: &[Filter], width: usize, parts: Parts, row: &R
     false
 }
 
-/// Whether a row fails one of the parts of a filter that must all be true, if that is one of these parts.
+/// Whether a row fails one of the conjuncts of a filter, if that is one of these parts.
 #[tactic(auto, using(crate::proofs::Conjuncts::conjunct_laws))]
 fn fails_part<R: RowView>(filter: &Option<Filter>, width: usize, parts: Parts, row: &R) -> bool
     ensures { result ≡ list_any (fails parts width (R.cells row.now)) (conjuncts filter.now) }
@@ -67,7 +67,7 @@ pub fn passes_others<R: RowView>(filter: &Option<Filter>, width: usize, row: &R)
     !fails_part(filter, width, Parts::Others, row)
 }
 
-/// Whether a part of a filter names columns of the main table alone, or none but known ones.
+/// Whether a part of a filter names columns of the main table alone, or known columns alone.
 fn is_decided(part: &Filter, width: usize, keys: &[usize]) -> bool
     ensures { result ≡ is_decided width keys.now part.now }
 {
@@ -85,7 +85,7 @@ fn are_decided(parts: &[Filter], width: usize, keys: &[usize]) -> bool
     true
 }
 
-/// Whether each part of a filter that must be true names columns of the main table alone, or none but known ones.
+/// Whether each conjunct of a filter names columns of the main table alone, or known columns alone.
 #[tactic(auto, using(crate::proofs::Conjuncts::conjunct_laws))]
 pub(crate) fn is_filter_decided(filter: &Option<Filter>, width: usize, keys: &[usize]) -> bool
     ensures { result ≡ are_decided width keys.now (conjuncts filter.now) }

@@ -2,8 +2,8 @@
 //! table change that it looks up. Such rows are alike in the cell that they look up and in the grouping columns of the
 //! main table.
 //!
-//! `specs/FilterParts.antt` says which parts of a filter the main table decides alone, `specs/Places.antt` where the
-//! rows of a sub-group go, and `specs/SubGroups.antt` which views can be kept by sub-groups.
+//! `specs/FilterParts.antt` says which parts of a filter the main table decides alone, `specs/Places.antt` to which
+//! group the rows of a sub-group belong, and `specs/SubGroups.antt` which views can be kept by sub-groups.
 #![tactic(auto)]
 
 mod columns;

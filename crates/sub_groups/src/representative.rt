@@ -1,4 +1,4 @@
-//! Rows that stand for sub-groups.
+//! Representatives of sub-groups.
 
 ghost use Rattle.std.specs.Prelude.{◌≡◌, ◌<◌, IfOk};
 ghost use Rattle.sub_groups.specs.Places.{place_in, representative, representative_cell};
@@ -8,7 +8,7 @@ use group_state::Tuple;
 use std::alloc::{AllocError, Global};
 use values::{Kind, Row, Value};
 
-/// The place of a column among others, if it is one of them.
+/// The index of a column among others, if it is one of them.
 fn place_in(columns: &[usize], column: usize) -> Option<usize>
     ensures { result ≡ place_in 0 columns.now column }
 {
@@ -39,8 +39,8 @@ fn representative_cell(
     }
 }
 
-/// A row of the main table, which has `width` columns, that stands for all rows of a sub-group: it has their cells in
-/// the columns `keys`, by which sub-groups are made, and null in the others.
+/// The representative of a sub-group: a row of the main table, which has `width` columns, with the cells of the
+/// sub-group's rows in the columns `keys`, by which sub-groups are made, and null in the others.
 #[tactic(auto, using(crate::proofs::RepresentativeCells::representative_laws))]
 pub(crate) fn representative(
     alloc: Global,

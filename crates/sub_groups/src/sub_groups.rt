@@ -49,9 +49,9 @@ use std::alloc::{AllocError, Global};
 use values::{Row, Value};
 use view_lang::{Lookup, Outputs, RowView, View};
 
-/// The rows of a main table that pass what it decides alone of a view's filter, in groups: by the cell that the view
-/// looks up, and by the view's grouping columns of the main table. Of each group is kept what the view keeps of its
-/// own.
+/// The rows of a main table that pass the part of a view's filter that it decides alone, in groups: by the cell that
+/// the view looks up, and by the view's grouping columns of the main table. Each group stores what the view's own
+/// groups do.
 #[derive(Debug, Drop)]
 pub struct SubGroups {
     groups: Groups,
@@ -76,7 +76,7 @@ fn sub_keys(
     Ok(keys)
 }
 
-/// Whether something is kept of columns of the main table alone.
+/// Whether all of these columns are the main table's.
 fn are_main(columns: &[AccumulatedColumn], width: usize) -> bool
     ensures { result ≡ are_main width columns.now }
 {
@@ -88,7 +88,7 @@ fn are_main(columns: &[AccumulatedColumn], width: usize) -> bool
     true
 }
 
-/// Whether a view whose groups keep these columns can be kept by sub-groups by these keys.
+/// Whether a view whose groups accumulate these columns can be kept by sub-groups by these keys.
 fn can_sub_group(
     view: &View,
     lookup: Lookup,
@@ -106,8 +106,8 @@ fn can_sub_group(
 }
 
 impl SubGroups {
-    /// The sub-groups of no rows of a main table with `width` columns, for a view whose groups keep these columns;
-    /// `None` where the view can't be kept by sub-groups.
+    /// The sub-groups of no rows of a main table with `width` columns, for a view whose groups accumulate these
+    /// columns; `None` where the view can't be kept by sub-groups.
     pub fn of(
         alloc: Global,
         view: &View,
@@ -131,7 +131,7 @@ impl SubGroups {
         Ok(Some(SubGroups { groups }))
     }
 
-    /// Takes them apart. The parts are all that they keep. If memory is refused, they are lost.
+    /// Takes them apart. The parts are all that they store. If memory is refused, they are lost.
     pub fn into_parts(self) -> Result<GroupsParts, AllocError>
         ensures value { IfOk result (λ parts. sub_groups_with parts ≡ self) }
         ensures kept { IfOk result (λ parts. AreGroups parts) }
@@ -149,8 +149,8 @@ impl SubGroups {
         Ok(SubGroups { groups })
     }
 
-    /// A row of the main table, which has `width` columns, comes under a number that no row has. After an error what is
-    /// kept has no meaning.
+    /// Inserts a row of the main table, which has `width` columns, with a number that no row has. After an error the
+    /// sub-groups are meaningless.
     #[tactic(auto, using(crate::proofs::Absent::absent_laws))]
     pub fn come<R: RowView>(&mut self, view: &View, width: usize, row: &R) -> Result<(), AllocError>
         requires { (rows : NumberedRows)
@@ -166,8 +166,8 @@ impl SubGroups {
         Ok(())
     }
 
-    /// The row of the main table, which has `width` columns, under a number goes. After an error what is kept has no
-    /// meaning.
+    /// Deletes the row of a number of the main table, which has `width` columns. After an error the sub-groups are
+    /// meaningless.
     #[tactic(auto, using(crate::proofs::Absent::absent_laws))]
     pub fn go<R: RowView>(&mut self, view: &View, width: usize, row: &R) -> Result<(), AllocError>
         requires { (rows : NumberedRows) × (n : ℕ) × (KeepsSubGroups self.old rows
@@ -202,7 +202,7 @@ impl SubGroups {
         Ok(tuples)
     }
 
-    /// The row that stands for the sub-group of a tuple, where the main table has `width` columns.
+    /// The representative of the sub-group of a tuple, where the main table has `width` columns.
     pub fn representative(
         &self,
         alloc: Global,

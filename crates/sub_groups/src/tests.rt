@@ -1,4 +1,4 @@
-//! Sub-groups of a few rows, kept while rows come and go.
+//! Sub-groups of a few rows, kept current while rows are inserted and deleted.
 
 use crate::{SubGroups, passes_others};
 use group_state::{AccumulatedColumn, AccumulatorForm};
@@ -8,8 +8,8 @@ use std::test::Fail;
 use values::{Kind, Row, Value, cmp_values};
 use view_lang::{Comparison, Filter, Lookup, Missing, Operand, Outputs, Test, View};
 
-/// The main table has a key, what is looked up, what is grouped by, and an amount. The side table has a key, a zone and
-/// a limit behind them.
+/// The main table has a key, the column that is looked up, the grouping column, and an amount. The side table has a
+/// key, a zone and a limit after them.
 const WIDTH: usize = 4;
 
 const LOOKED_UP: usize = 1;
@@ -107,7 +107,7 @@ fn makes_sub_groups_where_rows_move_together(rt: HostRuntime) -> Result<(), Fail
     assert_eq!(rt; are_made(alloc, constant, AMOUNT), Ok(true));
     let looked_up = above(LIMIT, Operand::Column(LOOKED_UP));
     assert_eq!(rt; are_made(alloc, looked_up, AMOUNT), Ok(true));
-    // Rows that are alike in what they look up and in the category may differ in the amount.
+    // Rows that are alike in the cell that they look up and in the category may differ in the amount.
     let limited = zone_and_amount(alloc, Operand::Column(LIMIT))?;
     assert_eq!(rt; are_made(alloc, limited, AMOUNT), Ok(false));
     let constant = zone_and_amount(alloc, Operand::Constant(int(2)))?;
@@ -118,7 +118,7 @@ fn makes_sub_groups_where_rows_move_together(rt: HostRuntime) -> Result<(), Fail
 #[test]
 fn asks_the_other_parts(rt: HostRuntime) -> Result<(), Fail> {
     let filter = Some(zone_and_amount(rt.alloc(), Operand::Constant(int(2)))?);
-    // The amount isn't asked here.
+    // The amount isn't tested here.
     let far = row(rt.alloc(), &[1, 7, 3, 0, 7, 11, 9])?;
     assert!(rt; passes_others(&filter, WIDTH, &far.as_slice()));
     let near = row(rt.alloc(), &[1, 7, 3, 5, 7, 10, 9])?;
@@ -126,8 +126,8 @@ fn asks_the_other_parts(rt: HostRuntime) -> Result<(), Fail> {
     Ok(())
 }
 
-/// The sub-groups of a row that looks up 7, after one that looks up 8 came and went and another of 7 failed the main
-/// table's part of the filter.
+/// The sub-groups of a row that looks up 7, after one that looks up 8 was inserted and deleted and another of 7 failed
+/// the main table's part of the filter.
 fn followed(alloc: Global, view: &View) -> Result<Option<SubGroups>, AllocError> {
     let gone = row(alloc, &[1, 8, 3, 9])?;
     let seven = row(alloc, &[2, 7, 3, 6])?;

@@ -1,4 +1,4 @@
--- The first places are those of the first rows of a view.
+-- The first entries are those of the first rows of a view.
 use Rattle.std.specs.Prelude.{ℕ, map, take}
 use Rattle.std.specs.Ordering.{nat_cmp}
 use Rattle.std.specs.Cmp.{nat_cmp_total}

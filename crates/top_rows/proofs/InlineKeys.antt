@@ -1,4 +1,4 @@
--- Lists whose first sort key is given by its kind and its key are ordered by it, then by the others.
+-- Lists whose first sort key is stored by kind and key are ordered by it, then by the others.
 use Rattle.std.proofs.Common.{◌≡◌, refl}
 use Rattle.std.specs.Prelude.{List, []}
 use Rattle.std.specs.Cmp.Lexicographic.{slice_cmp}

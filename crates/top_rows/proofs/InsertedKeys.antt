@@ -1,4 +1,4 @@
--- A key put among ascending keys: they ascend as before, and it is one of them.
+-- A key inserted among ascending keys: they ascend as before, and it is one of them.
 use Rattle.std.proofs.Common.{◌≡◌, refl, ap, sym, ◌∙◌}
 use Rattle.std.specs.Prelude.{List, [], ◌∷◌, Bool, true, false, cond, ◌||◌}
 use Rattle.std.specs.declared.cmp.Ordering.{Ordering}

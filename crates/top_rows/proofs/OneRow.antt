@@ -1,4 +1,4 @@
--- What is kept when one row changes.
+-- The order when one row changes.
 use Rattle.std.proofs.Common.{◌≡◌, refl, ap, sym, ◌∙◌, subst}
 use Rattle.std.specs.Prelude.{ℕ, List, Bool, true, false, Option, None, cond}
 use Rattle.std.specs.Cmp.{nat_cmp_total, tied_itself}
@@ -25,7 +25,7 @@ at rows n = named nat_cmp rows n
 abbrev set_row : ℕ → Option (List Datum) → (ℕ → Option (List Datum)) → ℕ → Option (List Datum)
 set_row = set_at nat_cmp nat_cmp_total exact_unsigned
 
--- where the row of a number was taken away there is none
+-- where the row of a number was deleted there is none
 none-at : (n : ℕ) (rows : NumberedRows) → set_row n None (at rows) n ≡ None
 none-at n rows = ap (λ (r : Ordering). cond (is_eq r) None (at rows n)) (tied_itself nat_cmp_total n)
 
@@ -37,7 +37,7 @@ set-twice n m a rows s = either (is_at (nat_cmp n) m) ∙ sym (lookup-with_at n 
     either true = refl
     either false = refl
 
--- The place of a row is put in, or taken away.
+-- The entry of a row is inserted, or removed.
 pub stands-entry : (b : Bool) (new : List RowEntry) (entry p : RowEntry) (inside seen : OrderedEntries)
     (order : List OrderBy) (n : ℕ) (row : List Datum)
     → stands new p ≡ cond (is_at (entry_cmp entry) p) b (stands inside.order_entries p) → entry ≡ place_of order n row
@@ -47,7 +47,7 @@ stands-entry b new entry p inside seen order n row h is by view =
     ∙ ap (λ (o : List OrderBy). cond (is_entry o n row p) b (stands inside.order_entries p)) by
     ∙ ap (λ (o : OrderedEntries). cond (is_entry o.order n row p) b (stands o.order_entries p)) view
 
--- The row before is taken away, and that after it put in.
+-- The entry of the row before is removed, and that of the row after it inserted.
 pub keeps-one : (old mid new : OrderedEntries) (n : ℕ) (before after : Option (List Datum)) (rows : NumberedRows)
     → mid.order ≡ old.order → new.order ≡ mid.order
     → ((p : RowEntry) → stands mid.order_entries p ≡ cond (is_entry_of old.order n before p) false (stands old.order_entries p))

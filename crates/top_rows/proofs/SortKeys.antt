@@ -1,4 +1,4 @@
--- Sort keys that compare as equal are the same, and they compare as the cells of which they are made.
+-- Sort keys that compare as equal are the same, and they compare as the cells from which they are computed.
 use Rattle.std.proofs.Common.{◌≡◌, refl, ap, ap₂, sym, true≢false}
 use Rattle.std.specs.Prelude.{List, [], ◌∷◌, true, false}
 use Rattle.std.specs.declared.cmp.Ordering.{Ordering}

@@ -1,4 +1,4 @@
--- What is kept of rows is their places, sorted.
+-- The entries of rows are stored sorted.
 use Rattle.std.specs.Ordering.{nat_cmp}
 use Rattle.std.specs.Cmp.{nat_cmp_total}
 use Rattle.std.proofs.lemmas.Map.Lookups.{exact_unsigned}

@@ -1,5 +1,5 @@
--- Places of rows that have a name of any kind: what is kept is the places, sorted, and the first of them are those of
--- the first rows of a view.
+-- Entries of rows whose names are of any type: they are stored sorted, and the first of them are those of the first
+-- rows of a view.
 use Rattle.std.proofs.Common.{◌≡◌, refl, ap, ap₂, sym, ◌∙◌, arith, get_or, length}
 use Rattle.std.specs.Prelude.{ℕ, zero, suc, List, [], ◌∷◌, Bool, true, false, Option, None, Some, cond, ◌&&◌, ◌||◌, ◌+◌, ◌<◌, map, take}
 use Rattle.std.specs.declared.cmp.Ordering.{Ordering}
@@ -71,7 +71,7 @@ module _ {N : Type 0} (cmp : N → N → Ordering) (total : IsTotalOrder cmp) (e
       λ i. (k i, l i)
 
   module _ (order : List OrderBy) (n : N) (p : List SortKey × N) where
-    -- at the row's own name the sort keys decide, at others nothing stands
+    -- at the row's own name the sort keys decide, at others there is nothing
     some-by : (a : Option (List Datum)) (b : Bool) → is_at (cmp n) p.1 ≡ b
         → is_entry_by cmp order n a p ≡ (has_sort_keys order p.0 a && b)
     some-by None b h = refl
@@ -119,7 +119,7 @@ module _ {N : Type 0} (cmp : N → N → Ordering) (total : IsTotalOrder cmp) (e
         any-insert_key (tied_total cmp total) (entry_by cmp order e.0 e.1) p (placed_by cmp order es)
         ∙ stands-by e es s p rest (is_at (cmp p.1) e.0) refl
 
-    -- What is kept of rows is their places, sorted.
+    -- The entries of rows are stored sorted.
     pub order_entries-are : (order_entries : List (List SortKey × N)) (rows : List (N × List Datum))
         → IsStrictlySortedBy cmp (keys_of rows) → IsStrictlySortedBy (tied_cmp cmp) order_entries
         → KeepsBy cmp order order_entries (named cmp rows) → order_entries ≡ placed_by cmp order rows
@@ -190,7 +190,7 @@ module _ {N : Type 0} (cmp : N → N → Ordering) (total : IsTotalOrder cmp) (e
         below [] a = tt
         below (x ∷ xs) a = (a.0, below xs a.1)
 
-    -- The rows of the names in the first places are the first of the sorted rows.
+    -- The rows of the names in the first entries are the first of the sorted rows.
     pub first-named : (order_entries : List (List SortKey × N)) (rows : List (N × List Datum)) (n : ℕ)
         → IsStrictlySortedBy cmp (keys_of rows) → IsStrictlySortedBy (tied_cmp cmp) order_entries
         → KeepsBy cmp order order_entries (named cmp rows) → AllByRecursion Fine rows
@@ -203,7 +203,7 @@ module _ {N : Type 0} (cmp : N → N → Ordering) (total : IsTotalOrder cmp) (e
         ∙ ap (λ l. map Some (take n l)) (sorted_by_place (λ e. e.1) (row_cmp order) (λ a b. cmp a.0 b.0) rows
         (by-names rows up))
 
-  -- The delta law: places follow the rows of some names.
+  -- The delta law: entries follow the rows of some names.
 
   abbrev pub set_at : N → Option (List Datum) → (N → Option (List Datum)) → N → Option (List Datum)
   set_at n a at m = cond (is_at (cmp n) m) a (at m)
@@ -233,7 +233,7 @@ module _ {N : Type 0} (cmp : N → N → Ordering) (total : IsTotalOrder cmp) (e
     has-cond p true x y = refl
     has-cond p false x y = refl
 
-    -- The row of a name is taken away, if it has one, or it was before.
+    -- The row of a name is removed, if it has one, or it was before.
     pub keeps-without : (t : Bool) → at n ≡ cond t None a
         → ((p : List SortKey × N) → stands_by cmp next p
         ≡ cond (is_entry_by cmp order n a p) false (stands_by cmp order_entries p))
@@ -247,7 +247,7 @@ module _ {N : Type 0} (cmp : N → N → Ordering) (total : IsTotalOrder cmp) (e
             rw (some-here order n p a h, own p h, is, has-cond p.0 t None a) (gone t (has_sort_keys order p.0 a))
         go p false h = rw (some-there order n p a h) (k.entries_are p)
 
-    -- The row of a name is put in, if it has one, unless it was before.
+    -- The row of a name is inserted, if it has one, unless it was before.
     pub keeps-with : (t : Bool) → at n ≡ cond t a None
         → ((p : List SortKey × N) → stands_by cmp next p
         ≡ cond (is_entry_by cmp order n a p) true (stands_by cmp order_entries p))
@@ -261,7 +261,7 @@ module _ {N : Type 0} (cmp : N → N → Ordering) (total : IsTotalOrder cmp) (e
             rw (some-here order n p a h, own p h, is, has-cond p.0 t a None) (come t (has_sort_keys order p.0 a))
         go p false h = rw (some-there order n p a h) (k.entries_are p)
 
-  -- Where two say the same of each name, what is kept of one is kept of the other.
+  -- Where two functions give the same for each name, what is stored for one is stored for the other.
   pub keeps-same : (order : List OrderBy) (order_entries : List (List SortKey × N)) (at others : N → Option (List Datum))
       → ((n : N) → at n ≡ others n) → KeepsBy cmp order order_entries at → KeepsBy cmp order order_entries others
   keeps-same order order_entries at others e k = record {
@@ -298,7 +298,7 @@ module _ {N : Type 0} (cmp : N → N → Ordering) (total : IsTotalOrder cmp) (e
         ≡ (list_any (is_at (cmp m)) (take i ns) || is_at (cmp m) (get_or ns i d))
     next m = list_any_more (is_at (cmp m)) ns i d below
 
-    -- one more name whose row is taken away
+    -- one more name whose row is removed
     pub without-more : (order_entries after : List (List SortKey × N)) (at : N → Option (List Datum))
         → ((p : List SortKey × N) → stands_by cmp after p
         ≡ cond (is_entry_by cmp order (get_or ns i d) (at (get_or ns i d)) p) false (stands_by cmp order_entries p))
@@ -311,7 +311,7 @@ module _ {N : Type 0} (cmp : N → N → Ordering) (total : IsTotalOrder cmp) (e
         (keeps-without order order_entries after (without cmp (take i ns) at) (get_or ns i d) (at (get_or ns i d)) k
         (list_any (is_at (cmp (get_or ns i d))) (take i ns)) refl f)
 
-    -- one more name whose row is put in
+    -- one more name whose row is inserted
     pub with-more : (order_entries after : List (List SortKey × N)) (at others : N → Option (List Datum))
         → others (get_or ns i d) ≡ None
         → ((p : List SortKey × N) → stands_by cmp after p
@@ -326,7 +326,7 @@ module _ {N : Type 0} (cmp : N → N → Ordering) (total : IsTotalOrder cmp) (e
         (list_any (is_at (cmp (get_or ns i d))) (take i ns))
         (ap (λ o. cond (list_any (is_at (cmp (get_or ns i d))) (take i ns)) (at (get_or ns i d)) o) none) f)
 
-    -- a name among them has no row once those of all are taken away
+    -- a name among them has no row once those of all are removed
     pub none-there : (at : N → Option (List Datum)) → without cmp ns at (get_or ns i d) ≡ None
     none-there at = ap (λ b. cond b None (at (get_or ns i d))) (among ns i below)
       where
@@ -337,7 +337,7 @@ module _ {N : Type 0} (cmp : N → N → Ordering) (total : IsTotalOrder cmp) (e
             ap (λ b. is_at (cmp (get_or xs j d)) x || b) (among xs j (omega (arith, h)))
             ∙ or-true (is_at (cmp (get_or xs j d)) x)
 
-  -- Where only rows of these names changed, the places of all rows are kept in the end.
+  -- Where only rows of these names changed, the entries of all rows are stored in the end.
   pub all-picked : (order : List OrderBy) (ns : List N) (order_entries : List (List SortKey × N))
       (at before : N → Option (List Datum))
       → ((n : N) → list_any (is_at (cmp n)) ns ≡ false → at n ≡ before n)

@@ -1,4 +1,4 @@
--- Places, and how they are ordered: by the sort keys one after the other, then by the name. The name of a row is its
+-- Entries, and how they are ordered: by the sort keys one after the other, then by the name. The name of a row is its
 -- number, or the grouping tuple of its group.
 use Rattle.std.specs.Prelude.{List, ℕ}
 use Rattle.std.specs.Cmp.{IsTotalOrder, nat_cmp_total, on_total, then_total}

@@ -1,4 +1,4 @@
--- When an order is that of some rows: a place is kept where the row of its number has its sort keys.
+-- When an order is that of some rows: it has an entry where the row of its number has its sort keys.
 use Rattle.std.specs.Ordering.{nat_cmp}
 use Rattle.view_lang.specs.Shifts.{NumberedRows}
 use Rattle.top_rows.specs.OrderedEntries.{OrderedEntries}

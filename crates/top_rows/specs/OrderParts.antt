@@ -6,14 +6,14 @@ use Rattle.top_rows.specs.EntryOrder.{RowEntry, entry_cmp}
 use Rattle.top_rows.specs.declared.parts.OrderedParts.{OrderedParts}
 use Rattle.top_rows.specs.declared.parts.OrderEntryParts.{OrderEntryParts}
 
--- the place that has these parts
+-- the entry that has these parts
 abbrev pub entry_with : OrderEntryParts → RowEntry
 entry_with p = (p.sort_keys.items, p.number)
 
--- what is kept that has these parts
+-- the order that has these parts
 abbrev pub ordered_with : OrderedParts → OrderedEntries
 ordered_with p = record { order = p.order.items; order_entries = map entry_with p.order_entries.items }
 
--- The places ascend.
+-- The entries ascend.
 abbrev pub AreAscending : OrderedParts → Type 0
 AreAscending p = IsStrictlySortedBy entry_cmp (map entry_with p.order_entries.items)

@@ -1,4 +1,4 @@
--- What is kept of rows is their places, sorted.
+-- The entries of rows are stored sorted.
 use Rattle.std.specs.Prelude.{◌≡◌}
 use Rattle.std.specs.List.Sorted.{IsStrictlySortedBy}
 use Rattle.std.specs.Map.{keys_of}

@@ -1,4 +1,4 @@
--- Places of rows that have a name of any kind: a number, or a grouping tuple. Rows that tie are in the order of their
+-- Entries of rows whose names are of any type: a number, or a grouping tuple. Rows that tie are in the order of their
 -- names.
 use Rattle.std.specs.Prelude.{◌≡◌, Bool, cond, false, List, [], ◌∷◌, None, Option, Some}
 use Rattle.std.specs.BTreeMap.{is_at}
@@ -19,20 +19,20 @@ has_sort_keys order ps None = false
 has_sort_keys order ps (Some row) = is_at (slice_cmp sort_key_cmp (sort_keys_of order row)) ps
 
 module _ {N : Type 0} (cmp : N → N → Ordering) where
-  -- whether a place is among some
+  -- whether an entry is among some
   abbrev pub stands_by : List (List SortKey × N) → List SortKey × N → Bool
   stands_by order_entries p = list_any (is_at (tied_cmp cmp p)) order_entries
 
-  -- the place of the row of a name
+  -- the entry of the row of a name
   abbrev pub entry_by : List OrderBy → N → List Datum → List SortKey × N
   entry_by order n row = (sort_keys_of order row, n)
 
-  -- whether a place is that of a name's row, if it has one
+  -- whether an entry is that of a name's row, if it has one
   abbrev pub is_entry_by : List OrderBy → N → Option (List Datum) → List SortKey × N → Bool
   is_entry_by order n None p = false
   is_entry_by order n (Some row) p = is_at (tied_cmp cmp (entry_by order n row)) p
 
-  -- A place is kept where the row of its name has its sort keys.
+  -- There is an entry where the row of its name has its sort keys.
   pub record KeepsBy (order : List OrderBy) (order_entries : List (List SortKey × N)) (at : N → Option (List Datum)) : Type 0
     where
       pub entries_are : (p : List SortKey × N) → stands_by order_entries p ≡ has_sort_keys order p.0 (at p.1)
@@ -41,15 +41,15 @@ module _ {N : Type 0} (cmp : N → N → Ordering) where
   abbrev pub named : List (N × List Datum) → N → Option (List Datum)
   named rows n = lookup (is_at (cmp n)) rows
 
-  -- the places of rows, each put before the first that isn't below it
+  -- the entries of rows, each inserted before the first that isn't below it
   abbrev pub placed_by : List OrderBy → List (N × List Datum) → List (List SortKey × N)
   placed_by order [] = []
   placed_by order (e ∷ es) = insert_key (tied_cmp cmp) (placed_by order es) (entry_by order e.0 e.1)
 
-  -- the row that one says a name has if the name is among some, else the row that the other says
+  -- the row that `at` gives for a name among some, and that `others` gives for any other
   abbrev pub pick : List N → (N → Option (List Datum)) → (N → Option (List Datum)) → N → Option (List Datum)
   pick ns at others n = cond (list_any (is_at (cmp n)) ns) (at n) (others n)
 
-  -- no row for names among some
+  -- the same without a row for names among some
   abbrev pub without : List N → (N → Option (List Datum)) → N → Option (List Datum)
   without ns at = pick ns (λ n. None) at

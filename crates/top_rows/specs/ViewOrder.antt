@@ -18,13 +18,13 @@ use Rattle.top_rows.specs.OrderedEntries.{OrderedEntries}
 abbrev pub OrdersKeys : List OrderBy → List Datum → Type 0
 OrdersKeys order row = AllByRecursion (λ o. IsKeyCell (cell_at row o.column)) order
 
--- Rows are kept whose numbers ascend, and what they are ordered by has an order.
+-- The rows have ascending numbers, and what they are ordered by has an order.
 pub record IsKeptFor (kept : OrderedEntries) (rows : NumberedRows) : Type 0 where
   pub ascending : IsStrictlySortedBy nat_cmp (keys_of rows)
   pub kept_rows : Keeps kept rows
   pub keys : AllByRecursion (λ e. OrdersKeys kept.order e.1) rows
 
--- Under each number stands a row, and these are the first n of the sorted rows.
+-- Each number has a row, and these are the first n of the sorted rows.
 abbrev pub AreFirst : List OrderBy → ℕ → NumberedRows → List ℕ → Type 0
 AreFirst order most rows numbers =
     map (λ n. row_at n rows) numbers ≡ map Some (take most (sorted (row_cmp order) (values_of rows)))

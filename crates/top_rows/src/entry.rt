@@ -1,4 +1,4 @@
-//! Places in an order.
+//! Entries of an order.
 
 ghost use Rattle.std.specs.Prelude.{◌≡◌, IfOk};
 ghost use Rattle.top_rows.specs.OrderParts.{entry_with};
@@ -11,7 +11,7 @@ use std::cmp::Ordering;
 use std::marker::Model;
 use view_lang::{OrderBy, RowView};
 
-/// The place of a row in an order: its sort keys, one for each of the order's columns, and its number, by which ties
+/// The entry of a row in an order: its sort keys, one for each of the order's columns, and its number, by which ties
 /// are broken. Contracts see the pair of both.
 #[derive(Debug, Drop)]
 pub(crate) struct OrderEntry {
@@ -82,7 +82,7 @@ impl Ord for OrderEntry {
 }
 
 impl OrderEntry {
-    /// The place of a row.
+    /// The entry of a row.
     pub(crate) fn of<R: RowView>(
         alloc: Global,
         order: &[OrderBy],

@@ -1,7 +1,8 @@
 //! Orders of rows, kept current by changes of the rows: the numbers of the rows, sorted by some of their columns.
 //!
-//! `specs/Keeping.antt` says when an order is that of some rows, over `Ties` (places of rows of any name) and `SortKeys`
-//! (what a row is ordered by), and `specs/ViewOrder.antt` that its first places are the first rows of a view.
+//! `specs/Keeping.antt` says when an order is that of some rows, over `Ties` (entries of rows with names of any type)
+//! and `SortKeys` (what a row is ordered by), and `specs/ViewOrder.antt` that its first entries are the first rows of a
+//! view.
 #![tactic(auto)]
 
 mod entry;

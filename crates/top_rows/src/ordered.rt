@@ -48,7 +48,7 @@ impl Ordered {
         })
     }
 
-    /// Takes the order apart. The parts are all that it keeps. If memory is refused, it is lost.
+    /// Takes the order apart. The parts are all that it stores. If memory is refused, it is lost.
     pub fn into_parts(self) -> Result<OrderedParts, AllocError>
         ensures value { IfOk result (λ parts. ordered_with parts ≡ self) }
         ensures ascending { IfOk result (λ parts. AreAscending parts) }
@@ -88,7 +88,7 @@ impl Ordered {
         })
     }
 
-    /// Inserts a row under its number. If memory is refused, nothing has changed.
+    /// Inserts a row with its number. If memory is refused, nothing has changed.
     pub fn insert<R: RowView>(&mut self, number: usize, row: &R) -> Result<(), AllocError>
         ensures order { self.new.order ≡ self.old.order }
         ensures order_entries { OnOk result ((p : RowEntry) → stands self.new.order_entries p
@@ -136,7 +136,7 @@ impl Ordered {
         }
     }
 
-    /// Applies the change of one row. It is removed before it is inserted, so that a row whose place stays the same is
+    /// Applies the change of one row. It is removed before it is inserted, so that a row whose entry stays the same is
     /// there in the end.
     fn change_row(&mut self, changed: &RowChange) -> Result<(), AllocError>
         ensures order { self.new.order ≡ self.old.order }
@@ -148,7 +148,7 @@ impl Ordered {
         Ok(())
     }
 
-    /// A row comes under a number that no row has. If memory is refused, nothing has changed.
+    /// Inserts a row with a number that no row has. If memory is refused, nothing has changed.
     pub fn come<R: RowView>(&mut self, number: usize, row: &R) -> Result<(), AllocError>
         ensures order { self.new.order ≡ self.old.order }
         ensures kept { OnOk result ((rows : NumberedRows) → FollowsShift (Keeps self.old) (Keeps self.new)
@@ -159,7 +159,7 @@ impl Ordered {
         Ok(())
     }
 
-    /// The row under a number goes. If memory is refused, nothing has changed.
+    /// Deletes the row of a number. If memory is refused, nothing has changed.
     pub fn go<R: RowView>(&mut self, number: usize, row: &R) -> Result<(), AllocError>
         ensures order { self.new.order ≡ self.old.order }
         ensures kept { OnOk result ((rows : NumberedRows) → FollowsShift (Keeps self.old) (Keeps self.new)
@@ -197,7 +197,7 @@ impl Ordered {
     }
 }
 
-/// The order stays as it is, also where memory is refused.
+/// The columns of the order stay as they are, also where memory is refused.
 impl Upkeep for Ordered {
     ghost use Rattle.std.specs.Prelude.{◌≡◌, OnOk};
     ghost use Rattle.view_lang.specs.Shifts.{Fits, NumberedRows, patched};

@@ -13,8 +13,8 @@ use std::marker::Model;
 use values::Key;
 use view_lang::{OrderBy, RowView};
 
-/// The sort keys of a row, one for each of an order's columns. The first two lie in the value itself. Contracts see the
-/// list of all.
+/// The sort keys of a row, one for each of an order's columns. The first two are stored inline. Contracts see the list
+/// of all.
 #[derive(Debug, Drop)]
 pub struct SortKeyList {
     first: Key,
@@ -124,8 +124,7 @@ impl SortKeyList {
         Ok(SortKeyList::with_two(first, second, others))
     }
 
-    /// The sort keys that a list holds. The list's memory is given back, but where there are further keys than the first
-    /// two.
+    /// The sort keys in a list. The list's memory is freed, unless there are more than two.
     pub fn from_list(alloc: Global, keys: Vec<SortKey>) -> SortKeyList
         ensures { result ≡ keys.items }
     {
@@ -199,7 +198,7 @@ impl SortKeyList {
     }
 }
 
-/// The kind and the key by which a sort key is given.
+/// A sort key as its kind and its key.
 fn parted(sort_key: SortKey) -> (InlineKind, Key)
     ensures listed { (others : List SortKeys) → listed result.0 result.1 others ≡ sort_key ∷ others }
     ensures given { (others : List SortKeys) → IsListed result.0 result.1 others }
@@ -211,7 +210,7 @@ fn parted(sort_key: SortKey) -> (InlineKind, Key)
     }
 }
 
-/// The sort key that is given by a kind and a key, if there is one.
+/// The sort key of a kind and a key, if there is one.
 fn joined(kind: InlineKind, key: Key) -> Option<SortKey>
     ensures { MatchOption result ((others : List SortKeys) → listed kind key others ≡ others)
         (λ sort_key. (others : List SortKeys) → listed kind key others ≡ sort_key ∷ others) }
@@ -247,7 +246,7 @@ fn cmp_keys(kind: InlineKind, first: &Key, second: &Key) -> Ordering
     }
 }
 
-/// How two sort keys are ordered that are given by their kinds and keys.
+/// The order of two sort keys, by their kinds and keys.
 fn cmp_inline(kind: InlineKind, key: &Key, other_kind: InlineKind, other: &Key) -> Ordering
     ensures { result ≡ inline_cmp kind key.now other_kind other.now }
 {

@@ -147,7 +147,7 @@ unfolding joined_row keep
 dropped law v f row is within isnt side =
     not-found law f v.filter row is within isnt v.lookup (looked_up v.lookup side row)
 
--- It fails what the main table decides alone: no part names another column.
+-- It fails the part that the main table decides alone: no conjunct names another column.
 
 within_operand : (n : ℕ) (o : Operand) → OperandIsWithin n o → operand_names (is_main n) o ≡ true
 within_operand n (operand.Constant d) within = refl
@@ -325,7 +325,7 @@ tells_one v o slots ns k below tells =
     let long : length (rows_of_numbers slots ns) ≡ length ns = length-map ns (row_of slots) in
     subst (DescribesSome v o k) (get_or-map (row_of slots) ns k 0 [] below) (tells k (omega (arith, below, long)))
 
--- What is made of a row that is dropped
+-- The projected row of a row that is dropped
 pub made-none : (os : Outputs) (o : Option (List Datum)) → o ≡ None → projected_by os o ≡ None
 made-none (columns outputs) o is = ap (option_map (shown_row outputs)) is
 made-none (groups by outputs having) o is = is
@@ -333,7 +333,7 @@ made-none (groups by outputs having) o is = is
 pub made_none : (v : View) (side : Side) (row : List Datum) → IsDropped v row → projected_row v side row ≡ None
 made_none v side row dropped = made-none v.outputs (passing_row v side row) (dropped side)
 
--- What links keep of it
+-- What links store of it
 pub dropped_link :
     (l : Links) (v : View) (row : List Datum) (cell : Option Datum) → referring_row v row ≡ option_map (λ d. d ∷ []) cell
     → passes_main (length row) v.filter row ≡ false → IsDroppedLink l cell (link_row l v row)

@@ -1,4 +1,4 @@
--- Views that show each row of the main table in its place.
+-- Views that show each row of the main table in the order of the numbers.
 use Rattle.std.proofs.Common.{◌≡◌, ℕ, zero, suc, true, List, [], ◌∷◌, ◌++◌, Option, None, Some, map, replicate, take, refl, ap, ap₂, sym, subst, true≢false, ◌∙◌}
 use Rattle.std.specs.Cmp.{nat_cmp_total}
 use Rattle.std.specs.List.{AllByRecursion}
@@ -53,7 +53,7 @@ use Rattle.upkeep.specs.declared.view_state.Links.TheVariants as links
 use Rattle.upkeep.specs.declared.view_state.ViewState.{ViewState}
 use Rattle.upkeep.proofs.MadeRows.{Laws, are_made, first_taken, made_rows, made_values, shown_by}
 
--- Something is made of each row
+-- Each row has a projected row
 
 filled : (m : Missing) (n : ℕ) (cells : Option (List Datum)) → stays m ≡ true
     → (more : List Datum) × (or_missing m n cells ≡ Some more)
@@ -167,13 +167,13 @@ live_asked law v slots there most numbers same asked first tables side is =
     ∙ ap (λ (ss : List Slot). take (unwrap_or v.first max_main_rows) (keys_of (numbered ss))) (sym same)))
     (law tables v side slots is)
 
--- an order is kept of plain views alone
+-- only plain views have an order
 pub order_is_plain : (Each : Type 0) (os : Outputs) (order : List OrderBy) (o : OrderedEntries) (rows : NumberedRows)
     → IsMaterializedBy Each (kept.Order o) os order rows → is_plain os ≡ true
 order_is_plain Each (columns outs) order o rows k = refl
 order_is_plain Each (groups by outs having) order o rows k = absurd k
 
--- What is kept of such a view is that of any rows.
+-- What is stored of such a view is that of any rows.
 
 pub still_live : (v : View) (k : Materialized) (old new : NumberedRows) → k ≡ kept.Live → IsMaterialized v k old → IsMaterialized v k new
 still_live v k old new is live =

@@ -1,4 +1,4 @@
--- A view that looks up a table whose rows change, brought up to the change by the rows that refer to its keys.
+-- A view that looks up a table whose rows change, updated by the rows that refer to the keys of the change.
 use Rattle.std.proofs.Common.{
   ◌≡◌,
   ◌≤◌,
@@ -111,7 +111,7 @@ set_twice [] n x y = refl
 set_twice (z ∷ zs) zero x y = refl
 set_twice (z ∷ zs) (suc n) x y = ap (λ ws. z ∷ ws) (set_twice zs n x y)
 
--- What was kept before the change is what is kept of the rows without it.
+-- What was stored before the change is that of the rows without it.
 pub current_without :
     (tables : List Table) (n : ℕ) (u : Turn) (c : TableChange) (old new : Rows) (v : View) (s : ViewState) → 0 < n
     → IsBefore n u c old new → IsCurrentWith tables old v s
@@ -138,7 +138,7 @@ world_here [] n below = absurd (omega (arith, below))
 world_here (r ∷ rs) zero below = refl
 world_here (r ∷ rs) (suc n) below = world_here rs n (omega (arith, below))
 
--- A key that the change doesn't name is looked up alike without it and with it.
+-- A key that the change doesn't name is looked up with the same result without it and with it.
 pub sides_swapped :
     (tables : List Table) (o : Option Lookup) (n : ℕ) (u : Turn) (c : TableChange) (rows : Rows) → n < length rows
     → looks_up o n ≡ true → (d : Datum) → is_among d (named_keys (table_at tables n) c (rows_at rows n)) ≡ false
@@ -169,7 +169,7 @@ pub look_some : (o : Option Lookup) (n : ℕ) → looks_up o n ≡ true → (l :
 look_some None n look = absurd (true≢false (sym look))
 look_some (Some l) n look = (l, refl)
 
--- The test answers whether a view is stale, or doesn't look a table up.
+-- The test says whether a view is stale, or doesn't look a table up.
 pub is_seen : (stale : Bool) {looks seen : Bool} → seen ≡ looks → (stale || not seen) ≡ false
     → (stale ≡ false) × (looks ≡ true)
 is_seen stale {looks = looks} is h = neither_one stale looks (ap (λ b. stale || not b) (sym is) ∙ h)
@@ -281,7 +281,7 @@ module _ (laws : Laws) {tables : List Table} {n : ℕ} (u : Turn) {c : TableChan
         let long = length-map ns (λ m. shift m (made_without (row_of main m)) (made_with (row_of main m))) in
         omega (arith, shorter, few, less, many, long)
 
-    -- what is asked where the change is made
+    -- what is required where the change is made
     pub remake_needs : (t : Table) → IsTable t → length (live main) ≤ t.max_rows
         → (kept : NumberedRows) × (IsMaterialized v s.kept kept
         × (Fits kept (reprojected_change tables rows v n u c ns)
@@ -291,7 +291,7 @@ module _ (laws : Laws) {tables : List Table} {n : ℕ} (u : Turn) {c : TableChan
       ((was found.fresh).0, (change_leads.fits, change_few t right held)),
     )
 
-    -- and what is kept then
+    -- and what is stored then
     pub remade_kept : (new : ViewState) → new.links ≡ s.links
         → ((kept : NumberedRows) → Fits kept (reprojected_change tables rows v n u c ns)
         → IsMaterialized v s.kept kept

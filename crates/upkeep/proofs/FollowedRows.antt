@@ -1,4 +1,4 @@
--- What is kept of a view through changes of the main table's rows.
+-- What is stored of a view through changes of the main table's rows.
 use Rattle.std.proofs.Common.{◌≡◌, ℕ, suc, ◌<◌, ◌≤◌, false, List, [], ◌∷◌, Option, None, Some, get_or, length, map, refl, ap, sym, subst, ◌∙◌, arith}
 use Rattle.std.proofs.lemmas.List.{length-map}
 use Rattle.values.specs.Datum.{Datum}
@@ -35,7 +35,7 @@ use Rattle.upkeep.specs.declared.view_state.Links.TheVariants as links
 use Rattle.upkeep.specs.declared.view_state.Turn.TheVariants as turn
 use Rattle.upkeep.specs.declared.view_state.ViewState.{ViewState}
 
--- what is kept of the rows that a view makes
+-- what is stored of a view's projected rows
 
 longer : (n k : ℕ) (o : Option (List Datum)) (rows : NumberedRows) → length rows ≤ k
     → length (image_by n o rows) ≤ suc k
@@ -54,7 +54,7 @@ image_few make rows change few =
     let same : length (map (shift_image make) change) ≡ length change = length-map change (shift_image make) in
     omega (arith, few, shorter, same)
 
--- a change fits what is kept of the rows that it fits
+-- a change fits what is stored of the rows that it fits
 pub follow_needs :
     (law : ImageFits) (tables : List Table) (v : View) (side : Side) (s : ViewState) (change : List Shift)
     (rows : NumberedRows) → IsCurrent tables v side s rows → Fits rows change → IsFew rows change → s.stale ≡ false
@@ -113,7 +113,7 @@ links_stay tables v k next (links.SubGroups s) (links.SubGroups t) kept form are
       kept ∙ are.1 ∙ ap (λ b. Some b.1) (sym both),
     )
 
--- a state of which both are brought up to a change
+-- a state of which both are updated for a change
 pub followed :
     (fit : ImageFits) (patch : ImagePatched) (tables : List Table) (v : View) (side : Side) (s next : ViewState)
     (change : List Shift) → s.stale ≡ false → columns_in next.kept ≡ columns_in s.kept
@@ -138,7 +138,7 @@ followed fit patch tables v side s next change was columns form kept links rows 
       ),
     )
 
--- all live rows come where there were none
+-- all live rows are inserted where there were none
 pub rebuild_needs :
     AllCome → (stores : List Store) (s : Store) (numbers given : List ℕ) → s ≡ get_or stores 0 s → 0 < length stores
     → given ≡ numbers → numbers ≡ keys_of (numbered s.slots) → map (row_of s.slots) numbers ≡ live_in s
@@ -160,7 +160,7 @@ pub main_width : (stores : List Store) (s : Store) → s ≡ get_or stores 0 s �
     → length s.table.columns ≡ width_in (tables_in stores)
 main_width stores s is main = ap (λ (t : Table). length t.columns) (sym (table_there stores 0 s is main))
 
--- all of them are there then
+-- all of them exist then
 pub rebuilt :
     AllCome → (stores : List Store) (s : Store) (numbers given : List ℕ) → s ≡ get_or stores 0 s → 0 < length stores
     → given ≡ numbers → numbers ≡ keys_of (numbered s.slots)

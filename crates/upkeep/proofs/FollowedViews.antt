@@ -1,4 +1,4 @@
--- Views in a loop that brings what is kept of each up to rows that come or go.
+-- Views in a loop that updates the state of each for rows that are inserted or deleted.
 use Rattle.std.proofs.Common.{
   ◌≡◌,
   ℕ,
@@ -34,7 +34,7 @@ use Rattle.row_keys.specs.Store.{Store}
 use Rattle.upkeep.proofs.LookedUpViews.{current_each, each_current}
 use Rattle.upkeep.proofs.Mixtures.{Mixed, each_length, mixed_all, mixed_more, mixed_next}
 
--- what is kept of a view is made of these rows
+-- a view's state is computed from these rows
 abbrev With : List Table → Rows → NumberedRows → View → ViewState → Type 0
 With tables rows live v s = IsCurrent tables v (side_by tables rows v) s live
 
@@ -51,7 +51,7 @@ all_followed tables rows before after n views states mixed all =
     current_each tables rows after views states
     (mixed_all (With tables rows after) (With tables rows before) n views states mixed all)
 
--- the change that it is, where the rows of the stores are the same
+-- the same change, where the rows of the stores are the same
 abbrev change_in : Rows → Turn → List ℕ → List Shift
 change_in rows t numbers = turned t (rows_at rows 0) numbers
 
@@ -99,7 +99,7 @@ followed_more old now before t numbers n views states v s u tables rows mixed be
     mixed_more Done Ahead n views states v u mixed below at_v
     (here fits (mixed_next Done Ahead n views states v s mixed below at_v at_s))
 
--- so many were opened
+-- n were opened
 pub opened_more : (i n a b c : ℕ) → b ≤ a + i * n → c ≤ b + n → c ≤ a + (i + 1) * n
 opened_more i n a b c so_far more = omega (arith, so_far, more, distributes i n) where
   distributes : (i n : ℕ) → (i + 1) * n ≡ i * n + n

@@ -1,4 +1,4 @@
--- A table of which rows are gone that aren't live: views are made of what they were made of.
+-- A table of which rows are released that aren't live: views are computed from the same rows as before.
 use Rattle.std.proofs.Common.{◌≡◌, ℕ, zero, suc, ◌<◌, List, [], ◌∷◌, length, refl, ap, subst, sym, ◌∙◌}
 use Rattle.std.specs.Prelude.{get_or, slice_set}
 use Rattle.view_lang.specs.Config.{Table, View}

@@ -1,4 +1,4 @@
--- The rows that a view is made of, row by row.
+-- The rows from which a view is computed, row by row.
 use Rattle.std.proofs.Common.{◌≡◌, ℕ, zero, suc, ◌<◌, Bool, cond, List, [], ◌∷◌, ◌++◌, Option, None, Some, length, get_or, refl, ap, sym, subst, ◌∙◌, append-nil, arith}
 use Rattle.std.specs.Prelude.{IfOk, Result, Ok, Err, Vec}
 use Rattle.std.specs.declared.alloc.Global.{Global}

@@ -32,7 +32,7 @@ use Rattle.upkeep.proofs.ShownColumns.{made_of, no_more}
 abbrev column_of : Output → ℕ
 column_of o = o.column
 
--- cells that aren't there are nulls
+-- cells that don't exist are nulls
 
 null_at : (k j : ℕ) → get_or (replicate k null) j null ≡ null
 null_at zero j = refl
@@ -85,7 +85,7 @@ row_if_is : (slots : List Slot) (o : Option ℕ) (cells : Option (List Datum)) �
 row_if_is slots None cells is = ap cells_if is
 row_if_is slots (Some n) cells is = ap cells_if is
 
--- what such a view makes of rows
+-- the projected rows of such a view
 module _ (stores : List Store) (v : View) (l : Lookup) (outputs : List Output) (plain : v.outputs ≡ columns outputs)
     (looks : v.lookup ≡ Some l) where
   abbrev slots : List Slot

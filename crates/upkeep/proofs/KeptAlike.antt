@@ -1,4 +1,4 @@
--- Rows of which the same is kept: they have the same sort keys, or the same cells in all that groups read.
+-- Rows for which the same is stored: they have the same sort keys, or the same cells in all that groups read.
 use Rattle.std.proofs.Common.{◌≡◌, ℕ, ◌<◌, ◌&&◌, ◌||◌, Bool, true, false, cond, All, List, [], ◌∷◌, Option, None, Some, ap, ap₂, arith, length, not, refl, subst, sym, true≢false, ◌∙◌}
 use Rattle.std.specs.Prelude.{slice_index_or}
 use Rattle.std.specs.BTreeMap.{insert_entry, is_at}
@@ -106,7 +106,7 @@ module _ (R : List Datum → List Datum → Type 0) (itself : (r : List Datum) �
     replaced (e ∷ es) up here =
         replaced_by e es up (replaced es (sorted_tail nat_cmp e.0 (keys_of es) up)) (nat_cmp n e.0) refl here
 
--- Two rows have the same tuple, and the same cells in the columns that are kept.
+-- Two rows have the same tuple, and the same cells in the accumulated columns.
 pub record AreGroupedAlike (by : List ℕ) (kept : List AccumulatedColumn) (a b : List Datum) : Type 0 where
   pub tuple : tuple_of by a ≡ tuple_of by b
   pub cells_are : All (λ c. cell_at a c.column ≡ cell_at b c.column) kept
@@ -191,7 +191,7 @@ same_tuple (k ∷ ks) a b same =
     ap₂ (λ x xs. x ∷ xs) (ap key_in (All-head (λ j. cell_at a j ≡ cell_at b j) k ks same))
     (same_tuple ks a b (All-tail (λ j. cell_at a j ≡ cell_at b j) k ks same))
 
--- What is kept of a view
+-- What is stored of a view
 
 order_kept :
     (Shows : Type 0) (outs : List Output) (order : List OrderBy) (o : OrderedEntries) (n : ℕ) (a b : List Datum)
@@ -266,7 +266,7 @@ alike_by Shows (groups by outputs having) order (kept.Groups g) n a b rows alike
     (all_same (λ (c : AccumulatedColumn). cell_at a c.column) (λ (c : AccumulatedColumn). cell_at b c.column) g.groups.columns
     none.1) up here keeps
 
--- Where the same is kept of what a view made of a row and of what it makes of it, what is kept stays as it is.
+-- Where the same is stored for the old projected row of a row and for the new one, what is stored stays as it is.
 pub alike_kept : (v : View) (k : Materialized) (n : ℕ) (x y : Option (List Datum)) (rows : NumberedRows)
     → are_reprojected_alike v k x y ≡ true → Fits rows (shift n (projected_by v.outputs x) (projected_by v.outputs y) ∷ [])
     → IsMaterialized v k rows → IsMaterialized v k (with_at n (projected_by v.outputs y) rows)

@@ -179,7 +179,7 @@ stale_flagged n [] ss = refl
 stale_flagged n (v ∷ vs) [] = refl
 stale_flagged n (v ∷ vs) (s ∷ ss) = ap (λ bs. (s.stale || looks_up v.lookup n) ∷ bs) (stale_flagged n vs ss)
 
--- A view that looks the table up counts as stale whatever was made of it.
+-- A view that looks the table up counts as stale whatever its state was.
 flagged_set : (n : ℕ) (views : List View) (bs : List Bool) (i : ℕ) (v : View) (b : Bool) → v ≡ get_or views i v
     → i < length views → looks_up v.lookup n ≡ true → flagged n views (slice_set bs i b) ≡ flagged n views bs
 flagged_set n [] bs i v b at below looks = absurd (omega (arith, below))
@@ -203,7 +203,7 @@ stale_set n views ss ts i v t at below looks alike =
     ∙ flagged_set n views (stale_in ss) i v t.stale at below looks
     ∙ ap (flagged n views) alike ∙ sym (stale_flagged n views ts)
 
--- what is kept of each view, in a loop in which they follow
+-- the state of each view, in a loop in which they follow
 
 both_false : (a b : Bool) → a || b ≡ false → (a ≡ false) × (b ≡ false)
 both_false true b none = absurd (true≢false none)
@@ -231,7 +231,7 @@ marked_each tables n rows live (v ∷ vs) (s ∷ ss) each = (
   marked_each tables n rows live vs ss each.1,
 )
 
--- those before place i are current with the new rows, and the others with the old ones
+-- those before index i are current with the new rows, and the others with the old ones
 abbrev pub AreFollowing : List Table → Rows → Rows → ℕ → List View → List ViewState → Type 0
 AreFollowing tables old new i views states = Mixed (IsCurrentWith tables new) (IsCurrentWith tables old) i views states
 

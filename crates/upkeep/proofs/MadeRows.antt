@@ -1,4 +1,4 @@
--- What is kept of a view, and the rows that it shows.
+-- What is stored of a view, and the rows that it shows.
 use Rattle.std.proofs.Common.{
   ◌≡◌,
   ℕ,
@@ -85,7 +85,7 @@ pub record Laws : Type 0 where
   pub keys : ViewsUseKeys
   pub ordered : ViewsOrderKeys
 
--- Rows that are made of all live rows
+-- Projected rows of all live rows
 
 abbrev pub made_rows : Outputs → List (List Datum) → List (List Datum)
 made_rows (columns outputs) rows = map (shown_row outputs) rows
@@ -108,7 +108,7 @@ module _ (laws : Laws) where
 
 -- Rows by number
 
--- Only a live row has something made of it.
+-- Only a live row has a projected row.
 live_made :
     (make : List Datum → Option (List Datum)) (b : Bool) (row r : List Datum)
     → option_and_then make (if b then Some row else None) ≡ Some r → (make row ≡ Some r) × (b ≡ true)
@@ -147,7 +147,7 @@ made_numbers given make P each (n ∷ ns) (r ∷ rs) same =
       many = ap suc rest.many;
     }
 
--- The row of that number is live, and something is made of it.
+-- The row of that number is live, and has a projected row.
 abbrev pub IsMadeAt : View → Side → List Slot → ℕ → Type 0
 IsMadeAt v side slots n = IsLiveAt slots n × ((row : List Datum) × (projected_row v side (row_of slots n) ≡ Some row))
 
@@ -197,7 +197,7 @@ module _ (laws : Laws) where
       let both = live_made (projected_row v side) s.live s.row r made in
       (both.0, (both.1, (r, both.0)))
 
-  -- the rows of numbers under which there is something
+  -- the rows of numbers that have one
   pub are_made :
       (v : View) (side : Side) (slots : List Slot) (numbers : List ℕ) (rows : List (List Datum))
       → map (λ n. row_at n (image (projected_row v side) (numbered slots))) numbers ≡ map Some rows
@@ -311,7 +311,7 @@ firsts_asked law v o most numbers asked first tables side slots is =
     (λ k. subst (λ m. AreFirst o.order m (image (projected_row v side) (numbered slots)) numbers) asked
     (first (image (projected_row v side) (numbered slots)) k))
 
--- Rows made one after the other
+-- Rows projected one after the other
 
 one_listed : (o : Option (List Datum)) → listed o ≡ cons_option o []
 one_listed None = refl

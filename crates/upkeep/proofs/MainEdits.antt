@@ -1,4 +1,4 @@
--- Edits of the main table, and of what is kept of the views of it.
+-- Edits of the main table, and of the states of its views.
 use Rattle.std.proofs.Common.{
   ◌≡◌,
   ℕ,
@@ -102,7 +102,7 @@ live_unchanged stores views states s t is same slots are =
     live_set stores s t views states is same are.these
     (subst P (sym slots) (current_there stores views states s is are))
 
--- New rows come.
+-- New rows are inserted.
 
 pub new_needs :
     NewCome → RowsAreLive → (stores : List Store) (views vs : List View) (states : List ViewState) (s t now : Store)
@@ -148,7 +148,7 @@ new_live come_law stores new views vs states now s t rows n same are is table ma
           (new_lead come_law s.slots slots rows n slots_are long) kept;
     })
 
--- what was made of the main table
+-- what was done to the main table
 pub edit_made :
     (old stores now : List Store) (views : List View) (a b : List Bool) (s t : Store) (e : TableEdit)
     (change : TableChange) → s ≡ get_or stores 0 s → t.table ≡ s.table → 0 < length stores
@@ -214,7 +214,7 @@ edit_refused old now views a b e f tables rows stale visits refuses = record {
   visits = still_visits f 0 (parts old views a) (parts now views b) visits;
 }
 
--- what was taken back again
+-- what was reverted again
 
 pub new_there :
     (stores : List Store) (s t : Store) (rows : List (List Datum)) (n : ℕ) → 0 < length stores
@@ -233,7 +233,7 @@ live_anyhow stores mid views vs states u v same are tables is table any =
     (subst (λ (ws : List View). EachIsCurrent (tables_in mid) (rows_in mid) (numbered v.slots) ws states) same
     (any (tables_in mid) (rows_in mid) (numbered v.slots)))
 
--- Rows go or come back before their store is changed.
+-- The views follow rows that are deleted or inserted again before their store is changed.
 
 pub there_needs :
     (stores : List Store) (views vs : List View) (states : List ViewState) (s : Store) (new : NumberedRows)
@@ -277,7 +277,7 @@ there_live stores mid views vs states now s u v change after same are is leads k
     live_set mid u v views now there (ap (λ (x : Store). x.table) done) mid_are
     (subst Q (sym slots) (subst R (sym tables) (subst S (sym rows) moved)))
 
--- what went back, and what did not
+-- what was reverted, and what was not
 pub went_back :
     {X E : Type 0} (stores mid : List Store) (views : List View) (a b : List Bool) (u v : Store)
     (after : List Slot → List Slot) (n : ℕ) (x : X) → 0 < length mid → tables_in mid ≡ tables_in stores
@@ -317,7 +317,7 @@ one_store : (stores : List Store) (s t : Store) → 0 < length stores → s ≡ 
 one_store [] s t main is same = absurd (omega (arith, main))
 one_store (x ∷ xs) s t main is same = is ∙ sym same
 
--- Rows are there that are named in another list.
+-- Rows exist that are named in another list.
 pub rows_named :
     (stores : List Store) (s : Store) (ns named : List ℕ) → s ≡ get_or stores 0 s → 0 < length stores → named ≡ ns
     → All (λ n. n < length s.slots) ns → All (λ n. n < length (rows_at (rows_in stores) 0)) named
@@ -370,7 +370,7 @@ retract_live go_law stores mid views vs states now s u v ns named again same are
     (λ (ss : List Slot). retracted named ss) same are is (go_law named s.slots can_named) kept tables rows there
     (done ∙ ap (λ (ms : List ℕ). with_slots u (retracted ms u.slots)) (other ∙ sym name))
 
--- Retracted rows that come back.
+-- Retracted rows that are restored.
 
 pub can_put_there :
     (stores : List Store) (s : Store) (ns : List ℕ) → s ≡ get_or stores 0 s → 0 < length stores
@@ -411,7 +411,7 @@ put_back_live come_law stores mid views vs states now s u v ns same are is can k
     there_live stores mid views vs states now s u v (λ (ss : List Slot). turned turn.Come ss ns)
     (λ (ss : List Slot). put_back ns ss) same are is (come_law s.table ns s.slots can_here) kept tables rows there done
 
--- The last rows, which go.
+-- The last rows, which are deleted.
 
 pub take_back_needs :
     RowsAreLive → RevertedGo → (stores : List Store) (views vs : List View) (states : List ViewState)

@@ -1,4 +1,4 @@
--- Views of a main table whose rows come and go.
+-- Views of a main table whose rows are inserted and deleted.
 use Rattle.std.proofs.Common.{
   ◌≡◌,
   ℕ,
@@ -57,7 +57,7 @@ use Rattle.upkeep.specs.declared.view_state.Turn.TheVariants as turn
 use Rattle.upkeep.specs.declared.view_state.ViewState.{ViewState}
 use Rattle.upkeep.proofs.ChangedStores.{rows_now, still_of}
 
--- What views look up is in other tables than the main one.
+-- The tables that views look up aren't the main table.
 
 side_in_kept : (tables : List Table) (rows : Rows) (slots : List Slot) (l : Option Lookup)
     → side_in tables (world_of (slice_set rows 0 slots)) l ≡ side_in tables (world_of rows) l
@@ -176,7 +176,7 @@ pub turned_length : (t : Turn) (slots : List Slot) (ns : List ℕ) → length (t
 turned_length turn.Come slots ns = length-map ns _
 turned_length turn.Go slots ns = length-map ns _
 
--- The rows that come with a batch.
+-- The rows that a batch inserts.
 
 live_shape : (b : Bool) (row : List Datum) (xs ys : List (List Datum)) (n : ℕ) → length xs ≡ length ys + n
     → length (if b then row ∷ xs else xs) ≡ length (if b then row ∷ ys else ys) + n
@@ -231,7 +231,7 @@ new_few law t slots new rows is right few =
     ap (λ (ss : List Slot). length (live ss)) is ∙ live_new slots rows in
     live_few law t slots right (omega (arith, after, few))
 
--- the last rows of a table, of which there are so many
+-- the last n rows of a table
 pub last_there :
     (slots new : List Slot) (rows : List (List Datum)) (n : ℕ) → new ≡ with_new slots rows → length rows ≡ n
     → n ≤ length new
@@ -239,7 +239,7 @@ last_there slots new rows n is long =
     let many : length new ≡ length slots + length rows = ap length is ∙ new_length slots rows in
     omega (arith, many, long)
 
--- The rows that go or come by their numbers are there.
+-- The rows that are deleted or inserted by their numbers exist.
 
 there_below : (slots : List Slot) (n : ℕ) (b : Bool) → IsThere slots n b → n < length slots
 there_below [] n b there = absurd (none-some (slot there.0 b) there.1)

@@ -1,4 +1,4 @@
--- Loops that go through two lists place by place: what holds of the places that are passed, and of those ahead.
+-- Loops that walk two lists index by index: what holds of the indices that are passed, and of those ahead.
 use Rattle.std.proofs.Common.{
   ◌≡◌,
   ℕ,
@@ -20,14 +20,14 @@ use Rattle.std.proofs.Common.{
 }
 use Rattle.std.specs.Prelude.{slice_set}
 
--- The lists are alike in length, and it holds at each place.
+-- The lists are of one length, and it holds at each index.
 abbrev pub Each : {X Y : Type 0} → (X → Y → Type 0) → List X → List Y → Type 0
 Each P [] [] = Unit {0}
 Each P [] (y ∷ ys) = ⊥
 Each P (x ∷ xs) [] = ⊥
 Each P (x ∷ xs) (y ∷ ys) = P x y × Each P xs ys
 
--- The first n places are done; those ahead are as they were.
+-- The first n items are done; those ahead are as they were.
 abbrev pub Mixed : {X Y : Type 0} → (X → Y → Type 0) → (X → Y → Type 0) → ℕ → List X → List Y → Type 0
 Mixed Done Ahead zero xs ys = Each Ahead xs ys
 Mixed Done Ahead (suc n) [] [] = Unit {0}
@@ -59,7 +59,7 @@ each_there P zero (a ∷ xs) (b ∷ ys) x y each below at_x at_y =
 each_there P (suc n) (a ∷ xs) (b ∷ ys) x y each below at_x at_y =
     each_there P n xs ys x y each.1 (omega (arith, below)) at_x at_y
 
--- what holds at the next place
+-- what holds at the next index
 pub mixed_next :
     {X Y : Type 0} (Done Ahead : X → Y → Type 0) (n : ℕ) (xs : List X) (ys : List Y) (x : X) (y : Y)
     → Mixed Done Ahead n xs ys → n < length xs → x ≡ get_or xs n x → y ≡ get_or ys n y → Ahead x y
@@ -82,7 +82,7 @@ mixed_set Done Ahead zero (a ∷ xs) (b ∷ ys) x y mixed below at_x done =
 mixed_set Done Ahead (suc n) (a ∷ xs) (b ∷ ys) x y mixed below at_x done =
     (mixed.0, mixed_set Done Ahead n xs ys x y mixed.1 (omega (arith, below)) at_x done)
 
--- one place more is done
+-- one item more is done
 pub mixed_more :
     {X Y : Type 0} (Done Ahead : X → Y → Type 0) (n : ℕ) (xs : List X) (ys : List Y) (x : X) (y : Y)
     → Mixed Done Ahead n xs ys → n < length xs → x ≡ get_or xs n x → Done x y
@@ -91,7 +91,7 @@ mixed_more Done Ahead n xs ys x y mixed below at_x done =
     subst (λ m. Mixed Done Ahead m xs (slice_set ys n y)) (sym (add-one n))
     (mixed_set Done Ahead n xs ys x y mixed below at_x done)
 
--- what follows of each place, done or ahead
+-- what follows at each index, done or ahead
 pub mixed_each :
     {X Y : Type 0} (Done Ahead P : X → Y → Type 0) → ((x : X) (y : Y) → Done x y → P x y)
     → ((x : X) (y : Y) → Ahead x y → P x y) → (n : ℕ) (xs : List X) (ys : List Y)

@@ -1,4 +1,4 @@
--- The rows of the main table by sub-groups, and what a view makes of them before and after a change of a side table.
+-- The rows of the main table by sub-groups, and their projected rows before and after a change of a side table.
 use Rattle.std.proofs.Common.{
   ◌≡◌,
   ℕ,
@@ -299,7 +299,7 @@ kept_alike v l a b row is same =
     (ap (λ cells. joined_by (Some l) row cells) same) in
     ap (option_and_then (λ r. cond (passes v.filter r) (Some r) None)) (joins v.lookup is)
 
--- Those that move are all that begin with one of the named values; what is made of the others stays.
+-- Those that move are all that begin with one of the named values; the projected rows of the others stay.
 module _ (v : View) (l : Lookup) (a b : Side) (rest : List ℕ) (named : List Datum) (ts : List (List Key))
     (es : List (List Key)) (is : v.lookup ≡ Some l)
     (under : (t : List Key) → list_any (is_at (tuple_cmp t)) ts
@@ -361,7 +361,7 @@ groups_in : (k : Materialized) (g : Ranked) (columns : List AccumulatedColumn) �
 groups_in k g columns is counted =
     some_is g.groups.columns columns (subst (λ (x : Materialized). columns_in x ≡ Some columns) is counted)
 
--- what is used of the lower crates' laws
+-- what is used from the lower crates' laws
 pub record Laws : Type 0 where
   pub values : ImageValues
   pub live : RowsAreLive
@@ -486,7 +486,7 @@ module _ (laws : Laws) {tables : List Table} {v : View} {s : SubGroups} {k : Mat
         each_keyed rows all.1,
       )
 
--- Sub-groups of these rows go from groups of what stores hold, or come to them.
+-- Sub-groups of these rows are removed from groups of what stores hold, or added to them.
 
 all_of : {X : Type 0} (xs : List X) → take (length xs) xs ≡ xs
 all_of [] = refl
@@ -496,7 +496,7 @@ none_of : {X : Type 0} (xs : List X) → drop (length xs) xs ≡ []
 none_of [] = refl
 none_of (x ∷ xs) = none_of xs
 
--- Groups keep what a view makes of these rows, but for those of the sub-groups that are out.
+-- Groups hold the projected rows of these rows, but for those of the sub-groups that are out.
 abbrev pub KeepsOthers : List Table → Rows → View → SubGroups → List (List Datum) → Ranked → List (List Key) → Type 0
 KeepsOthers tables held v s rows g out = KeepsRanked g (projected_but v (side_by tables held v) s.groups.keys out rows)
 

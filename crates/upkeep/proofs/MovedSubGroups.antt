@@ -96,12 +96,12 @@ pub joined_more :
 joined_more l o side row cs found more is there cells some =
     sym (ap (option_map (λ cs. row ++ cs)) some) ∙ joined_with l o side row found more is there cells
 
--- A sub-group that goes or comes
+-- A sub-group that is removed or added
 
 some_is : {X : Type 0} (x y : X) → Some x ≡ Some y → x ≡ y
 some_is x y h = cc h
 
--- an option of which something is made
+-- an option mapped by a function that gives something
 pub made_of : {X Y : Type 0} (f : X → Y) (o : Option X) (y : Y) → option_map f o ≡ Some y
     → (x : X) × ((o ≡ Some x) × (f x ≡ y))
 made_of f None y h = absurd (none-some y h)
@@ -111,12 +111,12 @@ pub made_none : {X Y : Type 0} (f : X → Y) (o : Option X) → option_map f o �
 made_none f None h = refl
 made_none f (Some x) h = absurd (none-some (f x) (sym h))
 
--- Groups keep rows of which each test counts alike.
+-- Groups accumulate rows of which each test counts as many.
 same_kept : (g : Ranked) (xs ys : List (List Datum)) → ((p : List Datum → Bool) → count_by p xs ≡ count_by p ys)
     → KeepsRanked g xs → KeepsRanked g ys
 same_kept g xs ys same kept = record { groups_are = keeps-same xs ys same g.groups kept.groups_are; ranked = kept.ranked }
 
--- Nothing is made of the rows of the sub-group.
+-- The rows of the sub-group have no projected rows.
 pub none_moved : (u : Turn) (g : Ranked) (moved all others : List (List Datum)) → moved ≡ [] → AreTogether all moved others
     → KeepsRanked g (before_move u all others) → KeepsRanked g (after_move u all others)
 none_moved u g moved all others none together = go u
@@ -256,7 +256,7 @@ module _ (ts : List (List Key)) (ascending : IsStrictlySortedBy tuple_cmp ts) (i
       (drop_more ts i t below ∙ ap (λ x. x ∷ drop (i + 1) ts) (sym is))
       ∙ or_swap (is_at (tuple_cmp u) t) (list_any (is_at (tuple_cmp u)) (drop (i + 1) ts))
 
--- which are out where the rows of a sub-group are all there, and where the others are
+-- which sub-groups are out where the rows of a sub-group are all in, and where the others are
 abbrev all_out : Turn → ℕ → List (List Key) → List (List Key)
 all_out turn.Go i ts = take i ts
 all_out turn.Come i ts = drop (i + 1) ts

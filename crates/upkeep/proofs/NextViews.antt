@@ -21,7 +21,7 @@ use Rattle.upkeep.proofs.LookedUpViews.{
 }
 use Rattle.upkeep.proofs.StoreContents.{from_stores, hold_same, to_stores}
 
--- the view of this place, and its state
+-- the view of this index, and its state
 pub record IsNext (views : List View) (states : List ViewState) (place : ℕ) (v : View) (s : ViewState) : Type 0 where
   pub below : place < length views
   pub view : v ≡ get_or views place v

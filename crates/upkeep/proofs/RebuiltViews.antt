@@ -92,7 +92,7 @@ state_current tables rows main (w ∷ ws) (x ∷ xs) zero v s is at below curren
 state_current tables rows main (w ∷ ws) (x ∷ xs) (suc k) v s is at below current =
     state_current tables rows main ws xs k v s is at (omega (arith, below)) current.1
 
--- and its mark says so
+-- and it isn't marked stale
 pub stale_there : (states : List ViewState) (old : List Bool) (k : ℕ) (s : ViewState)
     → stale_in states ≡ slice_set old k false → s ≡ get_or states k s → k < length states → s.stale ≡ false
 stale_there [] old k s is at below = absurd (omega (arith, below))

@@ -1,4 +1,4 @@
--- Rows of which one thing was made and another is made now, under their numbers.
+-- Rows whose projected row was one and is another now, by their numbers.
 use Rattle.std.proofs.Common.{◌≡◌, ℕ, zero, suc, ◌+◌, ◌<◌, ◌≤◌, ◌||◌, Bool, true, false, cond, List, [], ◌∷◌, Option, None, Some, ap, arith, get_or, length, map, refl, subst, sym, take, ◌∙◌}
 use Rattle.std.specs.BTreeMap.{is_at}
 use Rattle.std.specs.Cmp.{eq_by_cmp_equiv, nat_cmp_total, tied_itself, unsigned_tied}
@@ -79,7 +79,7 @@ module _ (n : ℕ) (before after : Option (List Datum)) (rows : NumberedRows)
   pub both_steps : with_at n after (with_at n None rows) ≡ with_at n after rows
   both_steps = set_twice n None after rows fits.ascending
 
--- Rows that were made by f, and are made by g
+-- Rows that f gave, and that g gives now
 
 all_numbered : (P : ℕ → Type 0) (ns : List ℕ) → ((m : ℕ) → is_numbered ns m ≡ true → P m) → AllByRecursion P ns
 all_numbered P [] h = tt
@@ -121,7 +121,7 @@ module _ (f g : List Datum → Option (List Datum)) (slots : List Slot) where
   chosen n m false true x is back = refl
   chosen n m false false x is back = refl
 
-  -- what stands under a number then
+  -- the row of a number then
   remade_at : (ns : List ℕ) (rows : NumberedRows) (m : ℕ) → AreUp rows
       → row_at m (patched rows (reprojected_by f g slots ns))
       ≡ cond (is_numbered ns m) (g (row_of slots m)) (row_at m rows)
@@ -200,7 +200,7 @@ module _ (s : ℕ → Shift) where
 
   module _ (P Q : NumberedRows → Type 0) (ns : List ℕ) (i : ℕ)
       (so_far : (rows : NumberedRows) → Fits rows (map s ns) → P rows → Q (patched rows (take i (map s ns)))) where
-    -- what is asked for the next change
+    -- what is required for the next change
     pub next_needs : (rows : NumberedRows) → i < length ns → P rows → Fits rows (map s ns) → IsFew rows (map s ns)
         → (now : NumberedRows) × (Q now × (Fits now (s (get_or ns i 0) ∷ []) × (length now < max_appended_rows)))
     next_needs rows below before fits few =

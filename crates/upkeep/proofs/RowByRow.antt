@@ -1,4 +1,4 @@
--- Rows that come or go one by one.
+-- Rows that are inserted or deleted one by one.
 use Rattle.std.proofs.Common.{◌≡◌, ℕ, zero, suc, ◌+◌, ◌<◌, ◌≤◌, Bool, true, false, cond, List, [], ◌∷◌, Option, None, Some, get_or, length, map, take, refl, ap, sym, subst, ◌∙◌, arith, true≢false}
 use Rattle.std.specs.Prelude.{if◌then◌else◌, is_some, slice_set}
 use Rattle.std.specs.BTreeMap.{insert_entry, is_at}
@@ -42,7 +42,7 @@ use Rattle.upkeep.specs.declared.view_state.Links.{Links}
 use Rattle.upkeep.specs.declared.view_state.Turn.{Turn}
 use Rattle.upkeep.specs.declared.view_state.Turn.TheVariants as turn
 
--- A change in which one row comes or goes
+-- A change in which one row is inserted or deleted
 
 module _ (t : Turn) (n : ℕ) (row : Option (List Datum)) (rows : NumberedRows) where
   pub come_fits : t ≡ turn.Come → Fits rows (turned_by t n row ∷ [])
@@ -78,7 +78,7 @@ none_patched : (t : Turn) (n : ℕ) (rows : NumberedRows) → Fits rows (turned_
 none_patched turn.Come n rows fits = absent (is_at (nat_cmp n)) rows fits.in_turn.0
 none_patched turn.Go n rows fits = absent (is_at (nat_cmp n)) rows fits.in_turn.0
 
--- what is kept of the rows is kept of them then
+-- what is stored is then that of the rows
 pub still_kept :
     (P : NumberedRows → Type 0) (change : List Shift) (t : Turn) (n : ℕ) (row : Option (List Datum)) (rows : NumberedRows)
     → change ≡ turned_by t n row ∷ [] → row ≡ None → Fits rows change → P rows → P (patched rows change)
@@ -168,7 +168,7 @@ taken_few [] (suc i) = omega arith
 taken_few (e ∷ es) zero = omega arith
 taken_few (e ∷ es) (suc i) = let rest = taken_few es i in omega (arith, rest)
 
--- When the changes before it are made, the next fits, and there is room for it.
+-- When the changes before it are made, the next fits, and there are few rows.
 pub record IsNext (rows : NumberedRows) (es one : List Shift) (i : ℕ) : Type 0 where
   pub fits : Fits (patched rows (take i es)) one
   pub more : patched rows (take (i + 1) es) ≡ patched (patched rows (take i es)) one
@@ -242,14 +242,14 @@ module _ (stores now : List Store) (s s' read : Store) (v : View) (n visit : ℕ
       ap (λ r. turned_by t n (link_row l v r) ∷ []) row_is
       ∙ sym (live_change (link_row l v) (rows_at (rows_in stores) 0) n t live)
 
--- what is kept through a change, however the change is named
+-- what is stored through a change, however the change is named
 pub same_change : (P : NumberedRows → Type 0) (Q : NumberedRows → Type 0) (one change : List Shift) → one ≡ change
     → ((rows : NumberedRows) → Fits rows one → P rows → Q (patched rows one))
     → (rows : NumberedRows) → Fits rows change → P rows → Q (patched rows change)
 same_change P Q one change same turned rows fits before =
     subst (λ (ch : List Shift). Q (patched rows ch)) same (turned rows (subst (Fits rows) (sym same) fits) before)
 
--- An order is kept of the rows that a plain view shows.
+-- The order of a plain view is that of the rows that it shows.
 pub order_turned :
     (Each : Type 0) (os : Outputs) (outs : List Output) (order : List OrderBy) (k : Materialized) (o o' : OrderedEntries) (t : Turn) (n : ℕ)
     (row : List Datum) → os ≡ columns outs → k ≡ kept.Order o → o'.order ≡ o.order
@@ -300,7 +300,7 @@ kept_all P Q make t slots ns i past so_far rows fits before =
     subst (λ (ch : List Shift). Q (patched rows ch)) (take_all i es (omega (arith, past, many)))
     (so_far rows fits before)
 
--- what is asked for the next change
+-- what is required for the next change
 pub next_needs :
     (P Q : NumberedRows → Type 0) (make : List Datum → Option (List Datum)) (t : Turn) (slots : List Slot)
     (ns : List ℕ) (i : ℕ) (rows : NumberedRows) → i < length ns

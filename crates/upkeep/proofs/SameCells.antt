@@ -70,7 +70,7 @@ plain_value (bytes b) plain = (λ h. absurd (cc), λ h. absurd (cc))
 plain_value (list es) plain = absurd (true≢false plain)
 plain_value (structure es) plain = absurd (true≢false plain)
 
--- What is known to be the same is the same.
+-- What the test finds the same is the same.
 known_by : (x y : Datum) (b : Bool) → is_nested x ≡ b → (not b && is_eq (datum_cmp x y)) ≡ true → x ≡ y
 known_by x y true nested same = absurd (true≢false (sym same))
 known_by x y false nested same =

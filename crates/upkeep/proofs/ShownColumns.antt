@@ -71,7 +71,7 @@ kept_joined b (Some r) joined is = by (b r) is
     by true h = h
     by false h = absurd (cc)
 
--- What is made of a row is what is shown of it joined.
+-- The projected row of a row is the shown row of its joined row.
 pub made_of : (v : View) (side : Side) (row made cells : List Datum) (os : Outputs) (outputs : List Output)
     (kept : Option (List Datum)) → os ≡ columns outputs → kept ≡ passing_row v side row
     → ((joined : List Datum) → joined_row v.lookup side row ≡ Some joined → shown_row outputs joined ≡ cells)
@@ -84,7 +84,7 @@ made_of v side row made cells (columns os) outputs (Some joined) plain whole sho
     kept_joined (passes v.filter) (joined_row v.lookup side row) joined (sym whole) in
     ap Some (ap (λ xs. shown_row xs joined) same ∙ shown joined there)
 
--- what such a view makes of rows
+-- the projected rows of such a view
 module _ (v : View) (side : Side) (slots : List Slot) (outputs : List Output) (plain : v.outputs ≡ columns outputs)
     (width : ℕ) (narrow : All (λ o. o.column < width) outputs)
     (wide : (n : ℕ) → IsLiveAt slots n → length (row_of slots n) ≡ width) where

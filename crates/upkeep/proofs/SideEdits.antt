@@ -76,7 +76,7 @@ pub record Changed (ss : List Store) (n : ℕ) (s t : Store) : Type 0 where
   pub below : n < length ss
   pub same : t.table ≡ s.table
 
--- the same of the stores inside of tables and views, of which it is known from outside how many there are
+-- the same of the stores inside tables and views, whose number is known from outside
 pub changed_inside :
     {inside seen : LiveParts} {n : ℕ} {s t : Store} → inside ≡ seen → n < length seen.stores
     → s ≡ get_or inside.stores n s → t.table ≡ s.table → Changed inside.stores n s t
@@ -104,7 +104,7 @@ set_twice [] n a b = refl
 set_twice (r ∷ rs) zero a b = refl
 set_twice (r ∷ rs) (suc n) a b = ap (λ xs. r ∷ xs) (set_twice rs n a b)
 
--- what is asked where views are to follow a change of the rows of store n
+-- what is required where views are to follow a change of the rows of store n
 pub record CanBeFollowed
     (ss : List Store) (views : List View) (states : List ViewState) (n : ℕ) (u : Turn) (c : TableChange) :
     Type 0 where
@@ -166,7 +166,7 @@ module _ {ss : List Store} {n : ℕ} {s t : Store} (changed : Changed ss n s t) 
         current = (rows_in ss, is_before same, current_before was);
       })
 
-  -- Rows go that weren't live.
+  -- Rows are released that weren't live.
   pub shrunk_live : {views : List View} {states : List ViewState} → 0 < n → live t.slots ≡ live s.slots
       → AreLive ss views states → AreLive (slice_set ss n t) views states
   shrunk_live {views = views} {states = states} side same was =
@@ -234,7 +234,7 @@ module _ {ss : List Store} {n : ℕ} {s t : Store} (changed : Changed ss n s t) 
           subst (λ (slots : List Slot). CanGoBack v.table change slots) (sym found_slots)
           (subst (λ (x : Table). CanGoBack x change t.slots) (sym found_table) can)
 
-      -- it is changed once more, from the rows of t to some that come of them
+      -- it is changed once more, from the rows of t to others computed from them
       module _ {u : Store} (g : List Slot → List Slot) (done : u ≡ with_slots v (g v.slots)) where
         pub restored_tables : tables_in (slice_set ss' n u) ≡ tables_in ss
         restored_tables = tables_set ss' n v u is (ap (λ (x : Store). x.table) done) ∙ opened_tables
@@ -279,13 +279,13 @@ module _ {ss : List Store} {n : ℕ} {s t : Store} (changed : Changed ss n s t) 
             ∙ ap (slice_set (rows_in ss) n)
             (restored_slots ∙ taken ∙ ap f (sym (rows_there ss n s changed.is changed.below)))
 
--- what is live where an edit is taken back for a while
+-- what is live where an edit is hidden for a while
 pub made_same : HiddenIsUndone → (s t : Store) (n : ℕ) (c : TableChange) → 0 < n → IsChangeOf n c
     → CanGoBack s.table c t.slots → back c t.slots ≡ s.slots → live s.slots ≡ live (swapped turn.Come c t.slots)
 made_same law s t n c side kind can undone =
     ap live (sym undone) ∙ sym (hidden_live law s.table c t.slots (side_change n c side kind) can)
 
--- what is left where hidden rows are forgotten
+-- the remaining rows where hidden rows are removed
 pub forgotten_is : (s t : Store) (c : TableChange) → CanSwap turn.Go t.table c t.slots → shown c t.slots ≡ s.slots
     → forgotten c t.slots ≡ back c s.slots
 forgotten_is s t c can again = can.1.forgets ∙ ap (back c) (sym can.1.again ∙ again)
@@ -327,7 +327,7 @@ module _ {ss : List Store} {n : ℕ} {s t : Store} (changed : Changed ss n s t) 
       (subst (λ old. P old (count (tables_in (slice_set ss n t)) (rows_in (slice_set ss n t))))
       (side_visits ss n t side) few)))
 
-  -- and to those of one whose change is taken back, which is hidden
+  -- and to those of one whose change is reverted, which is hidden
   pub opened_before : (ss' : List Store) (u : Store) → t.slots ≡ hidden c s.slots
       → visits_in ss' ≤ visits_in (slice_set ss n t) + length views
       * count_by (refers (width_in (tables_in (slice_set ss n t))) views n
@@ -420,7 +420,7 @@ visits_same n old new fault.Memory same = tt
 
 module _ {ss : List Store} {n : ℕ} {s t : Store} (changed : Changed ss n s t) {e : TableEdit} {views : List View}
     {stale : List Bool} where
-  -- it doesn't fit, or there is no memory for it
+  -- it doesn't fit, or memory for it is refused
   pub edit_refused : {f : EditFault} → 0 < n → Makes s.table e s.slots t.slots (Err f)
       → Edited n e (parts ss views stale) (parts (slice_set ss n t) views stale) (Err f)
   edit_refused {f = f} side makes = record {
@@ -458,7 +458,7 @@ module _ {ss : List Store} {n : ℕ} {s t : Store} (changed : Changed ss n s t) 
         visits = opens;
       }
 
--- There is no memory for the views: the rows are as they were.
+-- Memory for the views is refused: the rows are as they were.
 pub edit_restored :
     {ss ss' : List Store} {views : List View} {stale stale' : List Bool} {n : ℕ} {e : TableEdit}
     → HaveSameRows ss ss' → Edited n e (parts ss views stale) (parts ss' views stale') (Err fault.Memory)

@@ -74,7 +74,7 @@ use Rattle.upkeep.proofs.FollowedLookups.{world_here, world_placed}
 use Rattle.upkeep.proofs.ReferringRows.{is_key_same, made_alike}
 use Rattle.upkeep.proofs.SwappedStores.{kept_store}
 
--- Under one key more stands its row.
+-- One key more has its row.
 
 among_more : (d : Datum) (xs : List Datum) (x : Datum) → is_among d (xs ++ x ∷ []) ≡ (is_among d xs || same_key d x)
 unfolding is_among
@@ -144,7 +144,7 @@ module _ (law : KeysAreOrdered) (side : Side) (old new : RowsByKey) (k : Key) (r
       by_any d (take i keys) (key_of d) refl (so_far d)
       (sym (among_more d (map datum_of_key (take i keys)) (datum_of_key k)) ∙ sym (ap (is_among d) more) ∙ among)
 
--- what a view makes of a row, of what is looked up for it
+-- the projected row of a row, with what is looked up for it
 
 made_with : (v : View) (row : List Datum) (side : Side) (found : Option (List Datum))
     → found ≡ looked_up v.lookup side row → kept_with v row found ≡ passing_row v side row

@@ -13,7 +13,7 @@ pub hold_same : {before after : List Store} → HaveSameRows before after
     → Hold (tables_in before) (rows_in before) after
 hold_same same = record { tables_are = same.tables; rows_are = same.rows }
 
--- stores that are lent
+-- stores that are borrowed
 pub hold_lent : {before after lent : List Store} → HaveSameRows before after → lent ≡ after
     → Hold (tables_in before) (rows_in before) lent
 hold_lent {before = before} same is = subst (Hold (tables_in before) (rows_in before)) (sym is) (hold_same same)

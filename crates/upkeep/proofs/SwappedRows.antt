@@ -60,7 +60,7 @@ unfolding put_back
 row_put_back [] slots m = refl
 row_put_back (n ∷ ns) slots m = row_marked true (put_back ns slots) n m ∙ row_put_back ns slots m
 
--- a row that is marked is passed over
+-- a row that is marked is skipped
 passed : (t : Table) (d : Datum) (row : List Datum) (rest : List (List Datum)) (b : Bool)
     → same_key d (key_in t row) ≡ false
     → find (λ r. same_key d (key_in t r)) (if b then row ∷ rest else rest) ≡ find (λ r. same_key d (key_in t r)) rest
@@ -135,7 +135,7 @@ found_swapped turn.Go t (Put n replaced) d slots other =
     (ap (is_among d) (keys_retracted t (last_numbers n slots) replaced.items slots) ∙ apart.0)
     ∙ found_retracted t d replaced.items slots apart.1
 
--- A key that a change doesn't name is looked up alike with it and without it.
+-- A key that a change doesn't name is looked up with the same result with it and without it.
 pub side_swapped : (u : Turn) (t : Table) (c : TableChange) (d : Datum) (slots : List Slot)
     → is_among d (named_keys t c slots) ≡ false
     → side_of t (contents_of (swapped u c slots)) d ≡ side_of t (contents_of slots) d
@@ -148,7 +148,7 @@ side_swapped u t c (bytes b) slots other = found_swapped u t c (bytes b) slots o
 side_swapped u t c (list es) slots other = found_swapped u t c (list es) slots other
 side_swapped u t c (structure es) slots other = found_swapped u t c (structure es) slots other
 
--- The rows that a change names are there.
+-- The rows that a change names exist.
 
 pub few_last : (n : ℕ) (slots : List Slot) → CanRevert n slots → n ≤ length slots
 unfolding CanRevert
@@ -174,7 +174,7 @@ names_rows turn.Go t (Retracted ns) slots can = retracted_there ns.items slots c
 names_rows turn.Go t (Put n replaced) slots can =
     (few_last n slots can.1.can_show.0, retracted_there replaced.items slots can.1.can_show.1)
 
--- The keys that a change names are those before it is taken back.
+-- The keys that a change names are those before it is reverted.
 
 length_marked : (b : Bool) (slots : List Slot) (n : ℕ) → length (marked b slots n) ≡ length slots
 length_marked b [] n = refl
@@ -203,7 +203,7 @@ keys_hidden t (Put n replaced) slots =
     ∙ keys_put_back t (last ++ replaced.items) replaced.items (retracted last slots)
     ∙ keys_retracted t (last ++ replaced.items) last slots
 
--- Where it is hidden, those rows are live that are so where it was taken back.
+-- Where it is hidden, the same rows are live as where it was reverted.
 pub hidden_live : HiddenIsUndone → (t : Table) (c : TableChange) (slots : List Slot) → IsChangeOf 1 c
     → CanGoBack t c slots → live (hidden c slots) ≡ live (back c slots)
 hidden_live law t (Appended n) slots side can = absurd side

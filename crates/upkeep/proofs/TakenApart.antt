@@ -1,4 +1,4 @@
--- What tables that are made of parts keep.
+-- What tables that are made of parts store.
 use Rattle.std.proofs.Common.{◌≡◌, List, [], ◌∷◌, ap, map, refl}
 use Rattle.upkeep.specs.ViewParts.{state_with}
 use Rattle.upkeep.specs.ViewStates.{stale_in}

@@ -123,7 +123,7 @@ module _ (stores : List Store) (v : View) (s : Store) (right : All IsTable (tabl
       subst (λ (o : Option Lookup). IsLookedUp (tables_in stores) o (side_in (tables_in stores) (world_of rows) o) row)
       (sym is) joined)
 
--- the side table is there
+-- the side table exists
 pub side_there : (tables : List Table) (lookup : Option Lookup) (l : Lookup) → IsLookup tables lookup → lookup ≡ Some l
     → suc l.side < length tables
 side_there tables lookup l right is = (subst (IsLookup tables) is right).0

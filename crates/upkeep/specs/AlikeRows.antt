@@ -1,4 +1,4 @@
--- Joined rows of which the same is kept.
+-- Joined rows for which a view stores the same.
 use Rattle.std.specs.Prelude.{ℕ, ◌&&◌, Bool, true, false, List, Option, None, Some, not}
 use Rattle.std.specs.List.{list_any}
 use Rattle.std.specs.Ordering.{is_eq}
@@ -25,8 +25,8 @@ are_same a b = not (is_nested a) && is_eq (datum_cmp a b)
 abbrev pub differ_in : List Datum → List Datum → ℕ → Bool
 differ_in a b column = not (are_same (cell_at a column) (cell_at b column))
 
--- Whether the same is kept of two joined rows: they don't differ in a column by which a plain view orders its rows, or
--- in one by which groups are made, or of which they keep something.
+-- Whether a view stores the same for two joined rows: they don't differ in a column by which a plain view orders its
+-- rows, or in one by which groups are made, or that groups accumulate.
 abbrev pub are_materialized_alike_by : Outputs → List OrderBy → Materialized → List Datum → List Datum → Bool
 are_materialized_alike_by (columns outputs) order (kept.Order o) a b =
     not (list_any (λ by. differ_in (shown_row outputs a) (shown_row outputs b) by.column) order)
@@ -37,7 +37,7 @@ are_materialized_alike_by _ order k a b = false
 abbrev pub are_materialized_alike : View → Materialized → List Datum → List Datum → Bool
 are_materialized_alike v k a b = are_materialized_alike_by v.outputs v.order k a b
 
--- The same of rows that are there, or aren't: of two that aren't, nothing is kept.
+-- The same where either row may be missing: for two that are, nothing is stored.
 abbrev pub are_reprojected_alike : View → Materialized → Option (List Datum) → Option (List Datum) → Bool
 are_reprojected_alike v k None None = true
 are_reprojected_alike v k None (Some b) = false

@@ -30,7 +30,7 @@ use Rattle.sub_groups.specs.FilterParts.{passes_main}
 use Rattle.upkeep.specs.ViewStates.{referring_by}
 use Rattle.upkeep.specs.declared.arrivals.Arrival.{Arrival}
 
--- A view keeps no such row, whatever is looked up for it.
+-- A view drops such a row, whatever is looked up for it.
 abbrev pub IsDropped : View → List Datum → Type 0
 IsDropped v row = (side : Side) → passing_row v side row ≡ None
 
@@ -38,8 +38,8 @@ IsDropped v row = (side : Side) → passing_row v side row ≡ None
 abbrev pub cell_row : List Datum → ℕ → Option (List Datum)
 cell_row cells k = option_map (λ cell. cell ∷ []) (slice_get cells k)
 
--- Row k of a batch is this one: where the filter isn't true of it the view drops it, by what the main table decides
--- alone, and it refers by cell k.
+-- Row k of a batch is this one: where the filter isn't true of it the view drops it, even by the part of the filter
+-- that the main table decides alone, and its looked-up cell is cell k.
 pub record DescribesRow (v : View) (a : Arrival) (k : ℕ) (row : List Datum) : Type 0 where
   pub there : k < length a.truths
   pub dropped : is_true (get_or a.truths k None) ≡ false → IsDropped v row
@@ -61,7 +61,7 @@ EachDescribes views rows [] = Unit {0}
 EachDescribes [] rows (o ∷ os) = Unit {0}
 EachDescribes (v ∷ vs) rows (o ∷ os) = Describes v rows o × EachDescribes vs rows os
 
--- These cells are those by which the rows refer to a side table; none where no table is looked up.
+-- These cells are the looked-up cells of the rows; none where no table is looked up.
 abbrev pub AreReferring : Option Lookup → List (List Datum) → List Datum → Type 0
 AreReferring l rows cells = (k : ℕ) → k < length rows → referring_by l (get_or rows k []) ≡ cell_row cells k
 

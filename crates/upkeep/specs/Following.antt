@@ -1,4 +1,4 @@
--- How what is kept follows changes of the rows that it is kept of.
+-- How a state follows changes of the rows that it was computed from.
 use Rattle.std.specs.Prelude.{◌<◌, ◌≤◌, List, length}
 use Rattle.values.specs.Limits.{max_main_rows}
 use Rattle.view_lang.specs.Config.{View}
@@ -10,11 +10,11 @@ use Rattle.upkeep.specs.declared.view_state.Materialized.{Materialized}
 use Rattle.upkeep.specs.declared.view_state.Links.{Links}
 use Rattle.upkeep.specs.declared.view_state.ViewState.{ViewState}
 
--- What is kept follows a change: where it was that of rows that the change fits, it is that of the rows after it.
+-- A state follows a change: where it was that of rows that the change fits, it is that of the rows after it.
 abbrev pub Follows : (NumberedRows → Type 0) → (NumberedRows → Type 0) → List Shift → Type 0
 Follows was is change = (rows : NumberedRows) → Fits rows change → was rows → is (patched rows change)
 
--- It can follow: it is that of some rows that the change fits, and there are few of both.
+-- The state can follow: it is that of some rows that the change fits, and there are few of both.
 abbrev pub CanFollow : (NumberedRows → Type 0) → List Shift → Type 0
 CanFollow keeps change = (rows : NumberedRows) × (keeps rows × (Fits rows change × IsFew rows change))
 
@@ -26,11 +26,11 @@ CanTurn keeps change = (rows : NumberedRows) × (keeps rows × (Fits rows change
 abbrev pub CanFollowMain : (NumberedRows → Type 0) → List Shift → Type 0
 CanFollowMain keeps change = (rows : NumberedRows) × (keeps rows × (Fits rows change × (length rows ≤ max_main_rows)))
 
--- what is kept of a view
+-- what is stored of a view's projected rows
 abbrev pub MaterializedFollows : View → Materialized → Materialized → List Shift → Type 0
 MaterializedFollows v old new change = Follows (IsMaterialized v old) (IsMaterialized v new) change
 
--- what links keep
+-- what links store
 abbrev pub LinksFollow : Links → Links → List Shift → Type 0
 LinksFollow old new change = Follows (KeepsLinks old) (KeepsLinks new) change
 

@@ -1,4 +1,4 @@
--- The rows that a view is made of, as they are gathered from the stores.
+-- The rows that a view is computed from, as they are found in the stores.
 use Rattle.std.specs.Prelude.{List, [], ◌∷◌, Option, None, Some}
 use Rattle.values.specs.Datum.{Datum}
 use Rattle.view_lang.specs.Config.{Table, View}

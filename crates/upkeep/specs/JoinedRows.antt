@@ -12,7 +12,7 @@ use Rattle.upkeep.specs.Stores.{main_slots, rows_in, slots_in, tables_in, world_
 use Rattle.upkeep.specs.declared.joined_row.JoinedRow.{JoinedRow}
 use Rattle.upkeep.specs.declared.shown.JoinedColumns.{JoinedColumns}
 
--- the cells of a side table's row; so many nulls where there is none
+-- the cells of a side table's row; as many nulls where there is none
 abbrev pub side_cells : Option (List Datum) → ℕ → List Datum
 side_cells None n = replicate n null
 side_cells (Some row) n = row

@@ -1,4 +1,4 @@
--- What edits, and taking them back, do to tables and views that are kept current.
+-- What edits, and reverting them, do to tables and views that are kept current.
 use Rattle.std.specs.Prelude.{◌≡◌, ℕ, Bool, false, List, IfOk, Result, Ok, Err, OnErr, OnOk, get_or, slice_set}
 use Rattle.view_lang.specs.Edits.{TableEdit}
 use Rattle.view_lang.specs.World.{table_at}
@@ -21,7 +21,7 @@ StaleByMemory old (Err fault.Memory) new = Unit {0}
 abbrev pub NoneBecomesStale : List Bool → List Bool → Type 0
 NoneBecomesStale old new = (n : ℕ) → get_or old n false ≡ false → get_or new n false ≡ false
 
--- An edit of table n that is made opens at most as many rows for each view as it touches; one that doesn't fit opens
+-- An edit of table n that is applied opens at most as many rows for each view as it touches; one that doesn't fit opens
 -- none.
 abbrev pub VisitsOf : ℕ → LiveParts → Result TableChange EditFault → LiveParts → Type 0
 VisitsOf n old (Ok change) new =
@@ -35,7 +35,7 @@ pub record ChangedIn (n : ℕ) (old new : LiveParts) : Type 0 where
   pub tables : tables_in new.stores ≡ tables_in old.stores
   pub views : new.views ≡ old.views
 
--- An edit of table n is made, or refused with a cause that stands.
+-- An edit of table n is applied, or refused for a cause that applies.
 pub record Edited (n : ℕ) (e : TableEdit) (old new : LiveParts) (answer : Result TableChange EditFault) : Type 0 where
   pub makes :
       Makes (table_at (tables_in old.stores) n) e (rows_at (rows_in old.stores) n) (rows_at (rows_in new.stores) n)
@@ -45,8 +45,8 @@ pub record Edited (n : ℕ) (e : TableEdit) (old new : LiveParts) (answer : Resu
   pub stale : StaleByMemory old.stale answer new.stale
   pub visits : VisitsOf n old answer new
 
--- A change of table n that touched `rows_touched` rows is taken back, so that the table's rows are `slots`; or memory
--- is refused, and no row has changed.
+-- A change of table n that touched `rows_touched` rows is reverted, so that the table's rows are `slots`; or memory is
+-- refused, and no row has changed.
 pub record WentBack {X E : Type 0} (n : ℕ) (slots : List Slot) (rows_touched : ℕ) (old new : LiveParts)
     (answer : Result X E) : Type 0 where
   pub rows : OnOk answer (rows_in new.stores ≡ slice_set (rows_in old.stores) n slots)
@@ -56,7 +56,7 @@ pub record WentBack {X E : Type 0} (n : ℕ) (slots : List Slot) (rows_touched :
   pub stale : OnOk answer (new.stale ≡ old.stale)
   pub visits : OnOk answer (OpensOnce old rows_touched new)
 
--- This change of table n is taken back, or memory is refused.
+-- This change of table n is reverted, or memory is refused.
 abbrev pub TakesBack : {X E : Type 0} → ℕ → TableChange → LiveParts → LiveParts → Result X E → Type 0
 TakesBack n change old new answer =
     WentBack n (back change (rows_at (rows_in old.stores) n))

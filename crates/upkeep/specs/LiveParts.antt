@@ -23,19 +23,19 @@ live_code =
     (coded× (coded_list store_code) (coded× (coded_list view_code) (coded_list coded_bool)))
     (λ p. (p.stores, (p.views, p.stale))) (λ p. record { stores = p.0; views = p.1.0; stale = p.1.1 }) (λ _. refl)
 
--- there is a main table, those after it are side tables, and the views keep the rules of views of these tables
+-- there is a main table, those after it are side tables, and the views obey the rules of views of these tables
 pub record AreOf (stores : List Store) (views : List View) : Type 0 where
   pub main : 0 < length stores
   pub right : All IsTable (tables_in stores)
   pub sides : All IsSideTable (drop 1 (tables_in stores))
   pub of_these : All (IsView (tables_in stores)) views
 
--- there are such tables and views, and each view is stale, or what is kept of it is made of the live rows
+-- there are such tables and views, and each view is stale, or its state is computed from the live rows
 pub record AreLive (stores : List Store) (views : List View) (states : List ViewState) : Type 0 where
   pub these : AreOf stores views
   pub current : AreCurrent (tables_in stores) (rows_in stores) views states
 
--- what stands for a store where there is none of a number
+-- the result where there is no store of a number
 abbrev pub no_store : Store
 no_store = no_rows no_table
 

@@ -33,14 +33,14 @@ pub record AreGrouped (tables : List Table) (v : View) (s : SubGroups) (rows : L
   pub kept : KeepsGroups s.groups rows
   pub few : length rows < max_appended_rows
 
--- What the view makes of these rows, and what it makes of them but those of a sub-group.
+-- What the view makes of these rows is what it makes of those of a sub-group, and of the others.
 pub record AreParted
     (v : View) (side : Side) (keys : List ℕ) (t : List Key) (rows all others : List (List Datum)) :
     Type 0 where
   pub together : AreTogether all (filter_map (passing_row v side) (members keys t rows)) others
   pub few : length all < max_appended_rows
 
--- the rows of the groups before a sub-group goes or comes, and after it
+-- the rows of the groups before a sub-group is removed or added, and after it
 abbrev pub before_move : Turn → List (List Datum) → List (List Datum) → List (List Datum)
 before_move turn.Go all others = all
 before_move turn.Come all others = others
@@ -49,7 +49,7 @@ abbrev pub after_move : Turn → List (List Datum) → List (List Datum) → Lis
 after_move turn.Go all others = others
 after_move turn.Come all others = all
 
--- The sub-group under a tuple can go from these groups, or come to them.
+-- The sub-group of a tuple can be removed from these groups, or added to them.
 abbrev pub CanTurnSubGroup : List Store → View → SubGroups → List Key → Turn → Ranked → Type 0
 CanTurnSubGroup stores v s t u groups =
     (rows : List (List Datum)) × (all : List (List Datum)) × (others : List (List Datum))
@@ -57,37 +57,37 @@ CanTurnSubGroup stores v s t u groups =
     × (AreParted v (side_from stores v) s.groups.keys t rows all others
     × KeepsRanked groups (before_move u all others)))
 
--- It went, or came.
+-- It was removed, or added.
 abbrev pub TurnsSubGroup : List Store → View → SubGroups → List Key → Turn → Ranked → Ranked → Type 0
 TurnsSubGroup stores v s t u old new =
     (rows all others : List (List Datum)) → AreGrouped (tables_in stores) v s rows
     → AreParted v (side_from stores v) s.groups.keys t rows all others → KeepsRanked old (before_move u all others)
     → KeepsRanked new (after_move u all others)
 
--- which sub-groups are out where the first i of these went, or came
+-- which sub-groups are out where the first i of these were removed, or added
 abbrev pub out_at : Turn → ℕ → List (List Key) → List (List Key)
 out_at turn.Go i ts = take i ts
 out_at turn.Come i ts = drop i ts
 
--- what the view makes of the rows that are in none of these sub-groups
+-- the projected rows of the rows that are in none of these sub-groups
 abbrev pub projected_but : View → Side → List ℕ → List (List Key) → List (List Datum) → List (List Datum)
 projected_but v side keys out rows = filter_map (passing_row v side) (rows_but keys out rows)
 
--- the row by which the view places a sub-group
+-- the representative row of a sub-group, for which its group is found
 abbrev pub representative_row_of : List Store → View → SubGroups → List Key → Option (List Datum)
 representative_row_of stores v s t = representative_row (width_in (tables_in stores)) v (side_from stores v) s.groups.keys t
 
--- Groups keep what the view makes of these rows, but for those of the sub-groups that are out.
+-- Groups hold the projected rows of these rows, but for those of the sub-groups that are out.
 abbrev pub KeepsBut : List Store → View → SubGroups → Ranked → List (List Key) → List (List Datum) → Type 0
 KeepsBut stores v s groups out rows = KeepsRanked groups (projected_but v (side_from stores v) s.groups.keys out rows)
 
--- The sub-groups under these tuples can go from these groups, or come to them.
+-- The sub-groups of these tuples can be removed from these groups, or added to them.
 abbrev pub CanTurnSubGroups : List Store → View → SubGroups → List (List Key) → Turn → Ranked → Type 0
 CanTurnSubGroups stores v s ts u groups =
     (rows : List (List Datum))
     × (AreGrouped (tables_in stores) v s rows × KeepsBut stores v s groups (out_at u 0 ts) rows)
 
--- They went, or came.
+-- They were removed, or added.
 abbrev pub TurnsSubGroups : List Store → View → SubGroups → List (List Key) → Turn → Ranked → Ranked → Type 0
 TurnsSubGroups stores v s ts u old new =
     (rows : List (List Datum)) → AreGrouped (tables_in stores) v s rows

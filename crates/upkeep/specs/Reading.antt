@@ -1,4 +1,4 @@
--- What a view shows, read out of what is kept of it.
+-- What a view shows, read from its state.
 use Rattle.std.specs.Prelude.{◌≡◌, ℕ, ◌<◌, All, List, Some, length, take}
 use Rattle.std.specs.List.{filter_map}
 use Rattle.std.specs.Map.{keys_of}
@@ -20,11 +20,11 @@ use Rattle.upkeep.specs.ViewStates.{IsMaterializedLive, projected_row}
 use Rattle.upkeep.specs.declared.view_state.Materialized.{Materialized}
 use Rattle.upkeep.specs.declared.view_state.Materialized.TheVariants as kept
 
--- what a view makes of the rows of these numbers
+-- the projected rows of the rows of these numbers
 abbrev pub projected_at : View → Side → List Slot → List ℕ → List (List Datum)
 projected_at v side slots numbers = filter_map (λ n. projected_row v side (row_of slots n)) numbers
 
--- What is kept of a view is made of the live rows of the main table, which can be viewed.
+-- What is stored of a view is computed from the live rows of the main table, which can be viewed.
 pub record IsReadable (tables : List Table) (v : View) (side : Side) (slots : List Slot) (k : Materialized) : Type 0 where
   pub viewed : Viewed tables v side (live slots)
   pub kept : IsMaterializedLive v k side slots
@@ -34,7 +34,7 @@ abbrev pub WhereReadable : View → Materialized → (Side → List Slot → Typ
 WhereReadable v k P =
     (tables : List Table) (side : Side) (slots : List Slot) → IsReadable tables v side slots k → P side slots
 
--- The first rows of groups that are kept of a view, as many as it asks for, are those that it shows.
+-- The first rows of the groups of a view, as many as it asks for, are those that it shows.
 abbrev pub GroupsAreShown : Type 0
 GroupsAreShown =
     (tables : List Table) (v : View) (side : Side) (slots : List Slot) (g : Ranked) (made : List (List Datum))
@@ -44,8 +44,8 @@ GroupsAreShown =
     → made ≡ take (unwrap_or v.first max_main_rows) (ranked_rows g.groups.keys g.ranking rows))
     → made ≡ view_rows v side (live slots)
 
--- These are the numbers of the rows that a plain view shows, in their order. They are live, and something is made of
--- each.
+-- These are the numbers of the rows that a plain view shows, in their order. They are live, and each has a projected
+-- row.
 pub record AreShown (v : View) (side : Side) (slots : List Slot) (numbers : List ℕ) : Type 0 where
   pub there : All (λ n. n < length slots) numbers
   pub each_live : All (IsLiveAt slots) numbers
@@ -60,7 +60,7 @@ LiveAreShown =
     (tables : List Table) (v : View) (side : Side) (slots : List Slot) → IsReadable tables v side slots kept.Live
     → AreShown v side slots (take (unwrap_or v.first max_main_rows) (keys_of (numbered slots)))
 
--- So are the first in an order that is kept of it, as many as it asks for.
+-- So are the first in a materialized order, as many as it asks for.
 abbrev pub FirstsAreShown : Type 0
 FirstsAreShown =
     (tables : List Table) (v : View) (side : Side) (slots : List Slot) (o : OrderedEntries) (numbers : List ℕ)

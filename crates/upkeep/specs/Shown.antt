@@ -1,4 +1,4 @@
--- What is read of a view: its rows, or where they are stored.
+-- What is read from a view: its rows, or where they are stored.
 use Rattle.std.specs.Prelude.{◌≡◌, ℕ, ◌+◌, ◌<◌, All, IfSome, List, [], length, map}
 use Rattle.values.specs.Datum.{Datum}
 use Rattle.body_writer.specs.Picked.{beside, picked_rows}
@@ -14,8 +14,8 @@ use Rattle.upkeep.specs.declared.shown.Shown.TheVariants as shown
 use Rattle.upkeep.specs.declared.shown.JoinedColumns.{JoinedColumns}
 use Rattle.upkeep.specs.declared.shown.StoredColumns.{StoredColumns}
 
--- The rows are cells of live rows of the main table, which has `width` columns: those in the columns that the view
--- shows, none of which is coded.
+-- The cells are those of live rows of the main table, which has `width` columns, in the columns that the view shows,
+-- none of which is coded.
 pub record AreStored (v : View) (width : ℕ) (slots : List Slot) (s : StoredColumns) (rows : List (List Datum)) : Type 0
   where
     pub outputs : List Output
@@ -31,8 +31,8 @@ abbrev pub joined_in : Rows → JoinedColumns → List (List Datum)
 joined_in rows j =
     beside (map (row_of (rows_at rows 0)) j.visits) (map (row_if (row_of (rows_at rows j.table))) j.side_numbers.items)
 
--- What is shown are cells of live rows of the main table with live rows of a side table beside them: those in the
--- columns that the view shows, none of which is coded.
+-- The cells are those of live rows of the main table with live rows of a side table beside them, in the columns that
+-- the view shows, none of which is coded.
 pub record AreJoined (v : View) (tables : List Table) (rows : Rows) (j : JoinedColumns) (shown : List (List Datum)) :
     Type 0 where
   pub outputs : List Output
@@ -47,7 +47,7 @@ pub record AreJoined (v : View) (tables : List Table) (rows : Rows) (j : JoinedC
   pub many : length j.side_numbers.items ≡ length j.visits
   pub rows_are : picked_rows j.columns.items (joined_in rows j) ≡ shown
 
--- What is read of these tables and their rows is this.
+-- This is what is read from the view of these tables and their rows.
 abbrev pub Shows : View → List Table → Rows → Shown → List (List Datum) → Type 0
 Shows v tables rows (shown.Rows made) all = rows_of made.items ≡ all
 Shows v tables rows (shown.Stored s) all = AreStored v (width_in tables) (rows_at rows 0) s all

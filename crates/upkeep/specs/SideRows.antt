@@ -1,4 +1,4 @@
--- Rows of a side table by their keys, as they are where a change is there, and where it isn't.
+-- Rows of a side table by their keys, with a change and without it.
 use Rattle.std.specs.Prelude.{◌≡◌, ℕ, ◌++◌, true, cond, List, Option, None, Some, Vec}
 use Rattle.std.specs.BTreeMap.{is_at}
 use Rattle.std.specs.Map.{lookup}
@@ -32,28 +32,28 @@ row_in None = None
 row_in (Some None) = None
 row_in (Some (Some row)) = Some row.items
 
--- the side table that these rows are
+-- the side table that has these rows
 abbrev pub side_of_rows : RowsByKey → Side
 side_of_rows rows d = row_in (known_at rows (key_of d))
 
--- Under each of these keys stands what a side table has.
+-- For each of these keys this is the row of a side table, or there is none.
 abbrev pub AreOfKeys : List Datum → Side → RowsByKey → Type 0
 AreOfKeys keys side rows = (d : Datum) → is_among d keys ≡ true → side_of_rows rows d ≡ side d
 
--- the change of what a view makes of the rows of these numbers, where it looks up the rows after a change of the side
--- table in the place of those before it
+-- the change of a view's projected rows, of the rows of these numbers, where it looks up the rows after a change of the
+-- side table in place of those before it
 abbrev pub sided_change : List Slot → View → SideRows → List ℕ → List Shift
 sided_change slots v sides ns =
     reprojected_by (projected_row v (side_of_rows sides.before.entries)) (projected_row v (side_of_rows sides.after.entries)) slots ns
 
--- what a view makes of a row with this row of a side table, joined and filtered
+-- the projected row of a row with this row of a side table
 abbrev pub kept_with : View → List Datum → Option (List Datum) → Option (List Datum)
 kept_with v row found = option_and_then (λ r. cond (passes v.filter r) (Some r) None) (joined_by v.lookup row found)
 
 abbrev pub sided_cells : SidedRow → List Datum
 sided_cells s = s.main.now ++ side_cells (option_map (λ cells. cells.now) s.side) s.nulls
 
--- the change at a number where a view made one thing of a row of the main table, and makes another of it now
+-- the change at a number where the projected row of a row of the main table was one and is another now
 abbrev pub sided_shift : View → ℕ → Option SidedRow → Option SidedRow → Shift
 sided_shift v n before after =
     shift n (projected_by v.outputs (option_map sided_cells before)) (projected_by v.outputs (option_map sided_cells after))

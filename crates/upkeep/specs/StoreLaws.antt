@@ -41,7 +41,7 @@ set_mapped f [] n x = refl
 set_mapped f (y ∷ ys) zero x = refl
 set_mapped f (y ∷ ys) (suc n) x = ap (λ zs. f y ∷ zs) (set_mapped f ys n x)
 
--- what is set to what was there
+-- setting an element to what it was changes nothing
 pub set_same : {X Y : Type 0} (f : X → Y) (xs : List X) (n : ℕ) (x y : X) → x ≡ get_or xs n x → f y ≡ f x
     → map f (slice_set xs n y) ≡ map f xs
 set_same f [] n x y is same = refl
@@ -94,7 +94,7 @@ length_placed [] n slots = refl
 length_placed (r ∷ rs) zero slots = refl
 length_placed (r ∷ rs) (suc n) slots = ap suc (length_placed rs n slots)
 
--- what was there is put back
+-- restoring what was there
 pub rows_restored :
     (rows : Rows) (n : ℕ) (new : List Slot) (f : List Slot → List Slot) → f new ≡ rows_at rows n
     → slice_set (slice_set rows n new) n (f (rows_at (slice_set rows n new) n)) ≡ rows

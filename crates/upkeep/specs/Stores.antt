@@ -12,7 +12,7 @@ Rows = List (List Slot)
 abbrev pub rows_at : Rows → ℕ → List Slot
 rows_at rows n = get_or rows n []
 
--- the world that the live rows are: the contents of each table
+-- the world of the live rows: the contents of each table
 abbrev pub world_of : Rows → World
 world_of rows = map contents_of rows
 
@@ -39,6 +39,6 @@ pub record HaveSameRows (before after : List Store) : Type 0 where
   pub tables : tables_in after ≡ tables_in before
   pub rows : rows_in after ≡ rows_in before
 
--- the rows of all tables, when some of table k are gone
+-- the rows of all tables, when some of table k are released
 abbrev pub released_at : ℕ → List ℕ → Rows → Rows
 released_at k ns rows = slice_set rows k (released ns (rows_at rows k))

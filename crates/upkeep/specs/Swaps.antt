@@ -1,4 +1,4 @@
--- Changes of side tables that are taken back for a while, and come again.
+-- Changes of side tables that are hidden for a while, and shown again.
 use Rattle.std.specs.Prelude.{List}
 use Rattle.view_lang.specs.Config.{Table}
 use Rattle.row_keys.specs.HiddenChanges.{IsHidden, hidden, shown}
@@ -8,7 +8,7 @@ use Rattle.row_keys.specs.declared.table_change.TableChange.{TableChange}
 use Rattle.upkeep.specs.declared.view_state.Turn.{Turn}
 use Rattle.upkeep.specs.declared.view_state.Turn.TheVariants as turn
 
--- The change of a side table is there, or it is taken back; either can be turned into the other.
+-- The change of a side table is made, or it is hidden; either can be turned into the other.
 abbrev pub CanSwap : Turn → Table → TableChange → List Slot → Type 0
 CanSwap turn.Come t c slots = IsChangeOf 1 c × CanGoBack t c slots
 CanSwap turn.Go t c slots = IsChangeOf 1 c × IsHidden t c slots

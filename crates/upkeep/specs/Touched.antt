@@ -26,29 +26,29 @@ abbrev pub refers_by : Option Lookup → ℕ → List Datum → List Datum → B
 refers_by None table keys row = false
 refers_by (Some l) table keys row = nat_eq (suc l.side) table && is_among (cell_at row l.on) keys
 
--- whether it is opened for a view where rows of these keys change: it refers to one, and the view isn't one that moves
--- rows together. The main table has n columns.
+-- whether it is opened for a view where rows of these keys change: it refers to one, and the view doesn't move
+-- sub-groups. The main table has n columns.
 abbrev pub opened_for : ℕ → View → ℕ → List Datum → List Datum → Bool
 opened_for n v table keys row = not (is_moved n v) && refers_by v.lookup table keys row
 
--- whether it is for one of the views
+-- whether it is opened for one of the views
 abbrev pub refers : ℕ → List View → ℕ → List Datum → List Datum → Bool
 refers n views table keys row = list_any (λ v. opened_for n v table keys row) views
 
--- how many rows of the main table are opened for a view where this change of table n is made, or taken back
+-- how many rows of the main table are opened for a view where this change of table n is made, or reverted
 abbrev pub count_opened : List Store → View → ℕ → TableChange → ℕ
 count_opened stores v n change =
     count_by (opened_for (width_in (tables_in stores)) v n
     (named_keys (table_at (tables_in stores) n) change (rows_at (rows_in stores) n))) (live (main_slots stores))
 
--- how many refer to a row that it names, for one of these views that doesn't move rows together
+-- how many refer to a row that it names, for one of these views that doesn't move sub-groups
 abbrev pub count_referring : List Store → List View → ℕ → TableChange → ℕ
 count_referring stores views n change =
     count_by (refers (width_in (tables_in stores)) views n
     (named_keys (table_at (tables_in stores) n) change (rows_at (rows_in stores) n))) (live (main_slots stores))
 
 -- How many rows of the main table a change touches: those that it names, or those that refer to a row that it names,
--- for a view that doesn't move rows together.
+-- for a view that doesn't move sub-groups.
 abbrev pub touched : List Table → List View → Rows → ℕ → TableChange → ℕ
 touched tables views rows zero (Appended n) = n
 touched tables views rows zero (Retracted ns) = length ns.items
@@ -57,7 +57,7 @@ touched tables views rows (suc side) change =
     count_by (refers (width_in tables) views (suc side)
     (named_keys (table_at tables (suc side)) change (rows_at rows (suc side)))) (live (rows_at rows 0))
 
--- Each view may open so many rows.
+-- Each view may open this many rows.
 abbrev pub OpensOnce : LiveParts → ℕ → LiveParts → Type 0
 OpensOnce old rows new = visits_in new.stores ≤ visits_in old.stores + length old.views * rows
 
@@ -69,7 +69,7 @@ opened_by (groups by outputs having) shown = 0
 abbrev pub opened_of : View → Side → List Slot → ℕ
 opened_of v side slots = opened_by v.outputs (length (view_rows v side (live slots)))
 
--- A view that is stale is built anew, of all live rows.
+-- A view that is stale is built anew from all live rows.
 abbrev pub built_of : Bool → List Slot → ℕ
 built_of stale slots = if stale then length (live slots) else 0
 

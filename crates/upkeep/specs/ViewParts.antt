@@ -1,4 +1,4 @@
--- What is kept of views, taken apart.
+-- The states of views, taken apart.
 use Rattle.group_order.specs.RankedParts.{AreRanked, ranked_with}
 use Rattle.group_state.specs.GroupParts.{AreGroups}
 use Rattle.lookups.specs.ReferrersParts.{rows_with}
@@ -25,22 +25,22 @@ abbrev pub links_with : LinksParts → Links
 links_with (link_parts.Rows r) = links.Rows (rows_with r)
 links_with (link_parts.SubGroups g) = links.SubGroups (sub_groups_with g)
 
--- what is kept of a view that has these parts
+-- the state of a view that has these parts
 abbrev pub state_with : ViewParts → ViewState
 state_with p = record { stale = p.stale; kept = kept_with p.kept; links = links_with p.links }
 
--- Places ascend, and groups are such as are kept of rows.
+-- Entries ascend, and groups are such as are computed from rows.
 abbrev pub AreMaterializedParts : MaterializedParts → Type 0
 AreMaterializedParts parts.Live = Unit {0}
 AreMaterializedParts (parts.Order o) = AreAscending o
 AreMaterializedParts (parts.Groups g) = AreRanked g
 
--- Numbers ascend, and groups are such as are kept of rows.
+-- Numbers ascend, and groups are such as are computed from rows.
 abbrev pub AreLinksParts : LinksParts → Type 0
 AreLinksParts (link_parts.Rows r) = IsOrdered (rows_with r)
 AreLinksParts (link_parts.SubGroups g) = AreGroups g
 
--- Something can be kept that has these parts.
+-- There is a state that has these parts.
 pub record IsState (p : ViewParts) : Type 0 where
   pub kept : AreMaterializedParts p.kept
   pub links : AreLinksParts p.links

@@ -1,4 +1,4 @@
--- What is kept of a view.
+-- What is stored of a view.
 use Rattle.std.specs.Prelude.{
   ◌≡◌,
   ℕ,
@@ -62,11 +62,11 @@ abbrev pub projected_by : Outputs → Option (List Datum) → Option (List Datum
 projected_by (columns outputs) joined = option_map (shown_row outputs) joined
 projected_by (groups by outputs having) joined = joined
 
--- what a view makes of a row of the main table, joined and filtered; `None` where it isn't kept
+-- the projected row of a row of the main table; `None` where the view leaves it out
 abbrev pub projected_row : View → Side → List Datum → Option (List Datum)
 projected_row v side row = projected_by v.outputs (passing_row v side row)
 
--- whether a row stays for which the side table has no row
+-- whether a row for which the side table has no row is in the view
 abbrev pub stays : Missing → Bool
 stays missing.Null = true
 stays missing.Drop = false
@@ -80,15 +80,16 @@ abbrev pub is_plain : Outputs → Bool
 is_plain (columns outputs) = true
 is_plain (groups by outputs having) = false
 
--- A view shows each row of the main table in its place: it is plain, has no order and no filter, and leaves no row out.
+-- A view shows each row of the main table in the order of the numbers: it is plain, has no order and no filter, and
+-- leaves no row out.
 pub record ShowsEach (v : View) : Type 0 where
   pub plain : is_plain v.outputs ≡ true
   pub order : v.order ≡ []
   pub filter : v.filter ≡ None
   pub lookup : leaves_none v.lookup ≡ true
 
--- What is kept is that of these numbered rows: their places in a view's order, or their groups and the places of the
--- groups' rows in it; nothing is kept where the view shows each row.
+-- What is stored is that of these numbered rows: their entries in a view's order, or their groups and the entries of
+-- the groups' rows in it; nothing is stored where the view shows each row.
 abbrev pub IsMaterializedBy : Type 0 → Materialized → Outputs → List OrderBy → NumberedRows → Type 0
 IsMaterializedBy Each kept.Live outputs order rows = Each
 IsMaterializedBy Each (kept.Order o) (columns outputs) order rows = (o.order ≡ order) × KeepsOrder o rows
@@ -99,11 +100,11 @@ IsMaterializedBy Each (kept.Groups g) (groups by outputs having) order rows =
     × (g.ranking ≡ ranking_by outputs having order)
     × KeepsRanked g (values_of rows)
 
--- What is kept of a view is that of these numbered rows.
+-- What is stored of a view is that of these numbered rows.
 abbrev pub IsMaterialized : View → Materialized → NumberedRows → Type 0
 IsMaterialized v k rows = IsMaterializedBy (ShowsEach v) k v.outputs v.order rows
 
--- What is kept of a view is made of those of these rows of the main table that are live.
+-- What is stored of a view is computed from those of these rows of the main table that are live.
 abbrev pub IsMaterializedLive : View → Materialized → Side → List Slot → Type 0
 IsMaterializedLive v k side slots = IsMaterialized v k (image (projected_row v side) (numbered slots))
 
@@ -120,28 +121,28 @@ referring_row v row = referring_by v.lookup row
 abbrev pub sub_row_of : View → List Datum → Option (List Datum)
 sub_row_of v row = sub_row (length row) v row
 
--- what links keep of a row of the main table: the cell by which it refers, or the row, if it is in a sub-group
+-- what links store of a row of the main table: the cell by which it refers, or the row, if it is in a sub-group
 abbrev pub link_row : Links → View → List Datum → Option (List Datum)
 link_row (links.Rows r) v row = referring_row v row
 link_row (links.SubGroups s) v row = sub_row_of v row
 
--- Links keep these.
+-- Links store these.
 abbrev pub KeepsLinks : Links → NumberedRows → Type 0
 KeepsLinks (links.Rows r) rows = KeepsReferrers r rows
 KeepsLinks (links.SubGroups s) rows = KeepsSubGroups s rows
 
--- What links keep of a row that is dropped, of which this is the cell that it looks up: a row in no sub-group.
+-- What links store of a row that is dropped, whose looked-up cell this is: a row in no sub-group.
 abbrev pub IsDroppedLink : Links → Option Datum → Option (List Datum) → Type 0
 IsDroppedLink (links.Rows r) cell row = row ≡ option_map (λ d. d ∷ []) cell
 IsDroppedLink (links.SubGroups s) cell row = row ≡ None
 
--- the columns of which groups keep something
+-- the columns that groups accumulate
 abbrev pub columns_in : Materialized → Option (List AccumulatedColumn)
 columns_in kept.Live = None
 columns_in (kept.Order o) = None
 columns_in (kept.Groups g) = Some g.groups.columns
 
--- by what sub-groups are made, and of which columns they keep something
+-- the columns by which sub-groups are made, and those that they accumulate
 abbrev pub form_of : Links → Option (List ℕ × List AccumulatedColumn)
 form_of (links.Rows r) = None
 form_of (links.SubGroups s) = Some (s.groups.keys, s.groups.columns)
@@ -154,14 +155,14 @@ width_at tables n = length (table_at tables n).columns
 abbrev pub width_in : List Table → ℕ
 width_in tables = width_at tables 0
 
--- Sub-groups are kept of the views that can be kept by them, and of the columns of which the view's groups keep
--- something; referrers are kept of the others.
+-- The links of a view that can be kept by sub-groups are sub-groups, with the columns that the view's groups
+-- accumulate; those of the others are referrers.
 abbrev pub AreLinks : List Table → View → Materialized → Links → Type 0
 AreLinks tables v k (links.Rows r) = is_moved (width_in tables) v ≡ false
 AreLinks tables v k (links.SubGroups s) =
     AreSubGroups (width_in tables) v s × (columns_in k ≡ Some s.groups.columns)
 
--- A view is stale, or what is kept of it is made of these rows of the main table, and so are its links.
+-- A view is stale, or its state is computed from these rows of the main table, and so are its links.
 abbrev pub IsCurrent : List Table → View → Side → ViewState → NumberedRows → Type 0
 IsCurrent tables v side s rows =
     s.stale ≡ false
@@ -187,12 +188,12 @@ IsCurrentFor stores v s rows = IsCurrent (tables_in stores) v (side_from stores 
 abbrev pub AreCurrentFor : List Store → List View → List ViewState → NumberedRows → Type 0
 AreCurrentFor stores views states rows = EachIsCurrent (tables_in stores) (rows_in stores) rows views states
 
--- the change at a number where a row comes, or goes
+-- the change at a number where a row is inserted, or deleted
 abbrev pub turned_by : Turn → ℕ → Option (List Datum) → Shift
 turned_by turn.Come n row = shift n None row
 turned_by turn.Go n row = shift n row None
 
--- the change in which rows of these numbers come, or go
+-- the change in which rows of these numbers are inserted, or deleted
 abbrev pub turned : Turn → List Slot → List ℕ → List Shift
 turned turn.Come slots ns = come slots ns
 turned turn.Go slots ns = gone slots ns
@@ -201,11 +202,11 @@ turned turn.Go slots ns = gone slots ns
 abbrev pub turned_last : Turn → List Slot → ℕ → List Shift
 turned_last t slots n = turned t slots (last_numbers n slots)
 
--- the change of what a view makes of these rows
+-- the change of the projected rows of these rows
 abbrev pub projected_change : List Table → Rows → View → Turn → List ℕ → List Shift
 projected_change tables rows v t ns = map (shift_image (projected_row v (side_by tables rows v))) (turned t (rows_at rows 0) ns)
 
--- the change of what links keep
+-- the change of what links store
 abbrev pub link_change : List Slot → Links → View → Turn → List ℕ → List Shift
 link_change slots l v t ns = map (shift_image (link_row l v)) (turned t slots ns)
 
@@ -219,16 +220,16 @@ IsCurrentWith tables rows v s = IsCurrent tables v (side_by tables rows v) s (nu
 abbrev pub DiffersAt : ℕ → Rows → Rows → Type 0
 DiffersAt n old new = old ≡ slice_set new n (rows_at old n)
 
--- the rows of the tables where the change of one of them is turned: taken back, or there again
+-- the rows of the tables where the change of one of them is turned: reverted, or made again
 abbrev pub swapped_at : ℕ → Turn → TableChange → Rows → Rows
 swapped_at n t c rows = slice_set rows n (swapped t c (rows_at rows n))
 
--- the change of what is made of the rows of these numbers, where it was made by f and is made by g
+-- the change of the projected rows of the rows of these numbers, which f gave and g gives
 abbrev pub reprojected_by :
     (List Datum → Option (List Datum)) → (List Datum → Option (List Datum)) → List Slot → List ℕ → List Shift
 reprojected_by f g slots ns = map (λ n. shift n (f (row_of slots n)) (g (row_of slots n))) ns
 
--- the change of what a view makes of these rows where the change of a side table is turned
+-- the change of a view's projected rows of these rows where the change of a side table is turned
 abbrev pub reprojected_change : List Table → Rows → View → ℕ → Turn → TableChange → List ℕ → List Shift
 reprojected_change tables rows v n t c ns =
     reprojected_by (projected_row v (side_by tables (swapped_at n t c rows) v)) (projected_row v (side_by tables rows v))
@@ -240,19 +241,19 @@ pub record IsBefore (n : ℕ) (t : Turn) (c : TableChange) (old new : Rows) : Ty
   pub differs : DiffersAt n old new
   pub live_same : live (rows_at old n) ≡ live (swapped t c (rows_at new n))
 
--- A view that was current before the change of a table was turned is so after it.
+-- A view that was current before the change of a table was turned is current after it.
 abbrev pub BecomesCurrent : ℕ → Turn → TableChange → List Store → View → ViewState → ViewState → Type 0
 BecomesCurrent n t c stores v old new =
     (rows : Rows) → IsBefore n t c rows (rows_in stores) → IsCurrentWith (tables_in stores) rows v old
     → IsCurrentWith (tables_in stores) (rows_in stores) v new
 
--- views that were
+-- the same of views
 abbrev pub BecomeCurrent : ℕ → Turn → TableChange → List Store → List View → List ViewState → List ViewState → Type 0
 BecomeCurrent n t c stores views old new =
     (rows : Rows) → IsBefore n t c rows (rows_in stores) → AreCurrent (tables_in stores) rows views old
     → AreCurrent (tables_in stores) (rows_in stores) views new
 
--- They are current with the rows before it still.
+-- Views that were current with the rows before it still are.
 abbrev pub AreLeftCurrent : ℕ → Turn → TableChange → List Store → List View → List ViewState → List ViewState → Type 0
 AreLeftCurrent n t c stores views old new =
     (rows : Rows) → IsBefore n t c rows (rows_in stores) → AreCurrent (tables_in stores) rows views old
@@ -263,7 +264,7 @@ abbrev pub looks_up : Option Lookup → ℕ → Bool
 looks_up None n = false
 looks_up (Some l) n = nat_eq (suc l.side) n
 
--- what is kept is stale if a test holds, or if it was
+-- what is stored is stale if a test holds, or if it was
 abbrev pub stale_if : Bool → ViewState → ViewState
 stale_if b s = record { stale = s.stale || b; kept = s.kept; links = s.links }
 

@@ -19,6 +19,6 @@ IsViewed stores v = Viewed (tables_in stores) v (side_from stores v) (live (main
 abbrev pub rows_shown : List Store → View → List (List Datum)
 rows_shown stores v = view_rows v (side_from stores v) (live (main_slots stores))
 
--- These are what was read of the view.
+-- This is what was read from the view.
 abbrev pub ShowsView : List Store → View → Shown → Type 0
 ShowsView stores v shown = Shows v (tables_in stores) (rows_in stores) shown (rows_shown stores v)

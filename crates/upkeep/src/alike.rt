@@ -1,4 +1,4 @@
-//! Joined rows of which the same is kept.
+//! Joined rows for which a view stores the same.
 
 ghost use Rattle.std.specs.Prelude.{◌≡◌};
 ghost use Rattle.std.specs.List.{list_any};
@@ -10,7 +10,7 @@ use group_state::AccumulatedColumn;
 use values::{CellView, cmp_cells};
 use view_lang::{OrderBy, Outputs, RowView, ShownRow, View};
 
-/// Whether two cells are known to have the same value. Of lists and structs it isn't known.
+/// Whether two cells are known to have the same value. Lists and structs aren't compared.
 fn is_same_cell(a: CellView<'_>, b: CellView<'_>) -> bool
     ensures { result ≡ are_same (viewed a.entry) (viewed b.entry) }
 {
@@ -52,7 +52,7 @@ fn differs_in_tuple<R: RowView>(columns: &[usize], a: &R, b: &R) -> bool
     false
 }
 
-/// Whether two rows differ in a column of which groups keep something.
+/// Whether two rows differ in a column that groups accumulate.
 fn differs_in_columns<R: RowView>(columns: &[AccumulatedColumn], a: &R, b: &R) -> bool
     ensures { result ≡ list_any (λ c. differ_in (R.cells a.now) (R.cells b.now) c.column) columns.now }
 {
@@ -64,8 +64,8 @@ fn differs_in_columns<R: RowView>(columns: &[AccumulatedColumn], a: &R, b: &R) -
     false
 }
 
-/// Whether the same is kept of two joined rows that a view's filter keeps: they have the same cells in the columns by
-/// which the view orders its rows, or in those by which its groups are made and of which they keep something.
+/// Whether a view stores the same for two joined rows that pass its filter: they have the same cells in the columns by
+/// which the view orders its rows, or in those by which it groups and those that its groups accumulate.
 pub(crate) fn is_materialized_alike<R: RowView>(
     view: &View,
     kept: &Materialized,

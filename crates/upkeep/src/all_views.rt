@@ -1,4 +1,4 @@
-//! Brings what is kept of all views up to rows of the main table that come or go.
+//! Updates the states of all views for rows of the main table that are inserted or deleted.
 
 ghost use Rattle.std.specs.Prelude.{◌≡◌, ◌<◌, ◌≤◌, ◌+◌, ◌*◌, [], All, IfOk, List, OnErr, OnOk};
 ghost use Rattle.std.specs.Prelude.{count_by, false, length, map, slice_set, true};
@@ -18,7 +18,7 @@ use row_keys::RowStore;
 use std::alloc::{AllocError, Global};
 use view_lang::View;
 
-/// What is kept of these views of tables without rows. The main table has `width` columns.
+/// The states of these views of tables without rows. The main table has `width` columns.
 pub(crate) fn fresh_states(
     alloc: Global,
     views: &[View],
@@ -50,7 +50,7 @@ pub(crate) fn count_stale(states: &[ViewState]) -> usize
     count
 }
 
-/// Puts another state in the place of one.
+/// Replaces a state by another.
 pub(crate) fn replace_state(states: &mut Vec<ViewState>, place: usize, state: ViewState)
     requires { place < length states.old.items }
     ensures { states.new.items ≡ slice_set states.old.items place state }
@@ -68,8 +68,8 @@ fn mark_all_stale(states: &mut Vec<ViewState>)
     }
 }
 
-/// Brings what is kept of each view up to rows of the main table that come or go. If memory is refused, some views may
-/// still be those of the rows before.
+/// Updates each view's state for rows of the main table that are inserted or deleted. If memory is refused, the states
+/// of some views may still be those of the rows before.
 fn follow_each(
     alloc: Global,
     stores: &mut Vec<RowStore>,
@@ -107,7 +107,7 @@ fn follow_each(
     Ok(())
 }
 
-/// Brings what is kept of the views up to rows of the main table that come or go. After an error all are stale.
+/// Updates the views' states for rows of the main table that are inserted or deleted. After an error all are stale.
 pub(crate) fn follow_all(
     alloc: Global,
     stores: &mut Vec<RowStore>,
@@ -140,7 +140,7 @@ pub(crate) fn follow_all(
     }
 }
 
-/// Brings what is kept of the views up to the last rows of the main table, which come or go: these are their numbers.
+/// Updates the views' states for the last rows of the main table, which are inserted or deleted and have these numbers.
 /// After an error all are stale.
 fn follow_these(
     alloc: Global,
@@ -169,7 +169,7 @@ fn follow_these(
     follow_all(alloc, stores, views, states, turn, numbers, arrivals)
 }
 
-/// Brings what is kept of the views up to the last rows of the main table, which come or go. After an error all are
+/// Updates the views' states for the last rows of the main table, which are inserted or deleted. After an error all are
 /// stale.
 pub(crate) fn follow_last(
     alloc: Global,

@@ -1,4 +1,4 @@
-//! What the columns of a batch tell of its rows, before they are stored: which rows a view drops is known without
+//! What the columns of a batch say about its rows before they are stored: which rows a view drops is known without
 //! opening them.
 
 ghost use Rattle.std.specs.Prelude.{◌≡◌, ◌<◌, All, IfOk, get_or, length, not, None, option_copied, slice_get};
@@ -20,7 +20,7 @@ use view_lang::{Lookup, View};
 pub(crate) struct Arrival {
     /// The truth of the filter on each row.
     truths: Truths,
-    /// The cell of each row that is looked up; none where the view looks up no table.
+    /// The looked-up cell of each row; none where the view looks up no table.
     looked_up: Vec<Value>,
 }
 
@@ -33,7 +33,7 @@ impl Arrival {
         !self.truths.at(index).unwrap_or(false)
     }
 
-    /// The cell of a row that is looked up; `None` where the view looks up no table.
+    /// The looked-up cell of a row; `None` where the view looks up no table.
     pub(crate) fn looked_up(&self, index: usize) -> Option<&Value>
         ensures { option_copied result ≡ slice_get self.now.looked_up.items index }
     {
@@ -53,7 +53,7 @@ fn cells_of(alloc: Global, column: &Column) -> Result<Vec<Value>, AllocError>
     Ok(cells)
 }
 
-/// The cells of a batch that are looked up; `None` where it hasn't their column.
+/// The looked-up cells of a batch; `None` where it lacks their column.
 #[tactic(auto, using(crate::proofs::ArrivalRows::batch_laws))]
 fn looked_up_cells(
     alloc: Global,
@@ -75,8 +75,8 @@ fn looked_up_cells(
     Ok(Some(cells))
 }
 
-/// What the columns of a batch tell a view of its rows; `None` where the view is stale, or has no filter, or one that
-/// names columns of a side table.
+/// What the columns of a batch say about its rows for a view; `None` where the view is stale, or has no filter, or one
+/// that names columns of a side table.
 #[tactic(auto, using(crate::proofs::ArrivalRows::batch_laws))]
 fn arrival_for(
     alloc: Global,
@@ -115,7 +115,7 @@ fn have_filter(views: &[View]) -> bool {
     false
 }
 
-/// What the columns of a batch tell each view of its rows; nothing, where no view has a filter.
+/// What the columns of a batch say about its rows for each view; nothing where no view has a filter.
 pub(crate) fn arrivals_for(
     alloc: Global,
     views: &[View],
@@ -138,7 +138,7 @@ pub(crate) fn arrivals_for(
     Ok(arrivals)
 }
 
-/// What is known for the view at a place; `unknown`, which is `None`, where nothing is.
+/// What is known for the view at an index; `unknown`, which is `None`, where nothing is.
 pub(crate) fn arrival_at<'a>(
     arrivals: &'a [Option<Arrival>],
     place: usize,

@@ -1,4 +1,4 @@
-//! Brings what is kept of a view up to rows of the main table that come or go.
+//! Updates the state of a view for rows of the main table that are inserted or deleted.
 
 ghost use Rattle.std.specs.Prelude.{
   ◌≡◌,
@@ -51,8 +51,8 @@ use std::alloc::{AllocError, Global};
 use values::{KeyBuffer, Value};
 use view_lang::{View, image_law};
 
-/// Brings what is kept of a view up to a row of the main table that comes or goes: the row is joined, filtered and
-/// projected where it lies. After an error what is kept has no meaning.
+/// Updates the state of a view for a row of the main table that is inserted or deleted: the row is joined, filtered and
+/// projected where it lies. After an error the state is meaningless.
 fn turn_main_row(
     stores: &[RowStore],
     view: &View,
@@ -76,7 +76,7 @@ fn turn_main_row(
     turn_joined(view, kept, turn, number, &joined)
 }
 
-/// Whether the row of this number, which comes or goes, was gone before: a row that isn't live doesn't go.
+/// Whether the row of this number is to be deleted and isn't live: then nothing is to be done.
 fn is_gone(stores: &[RowStore], turn: Turn, number: usize) -> bool
     requires main { 0 < length stores.now }
     requires there { number < length (main_slots stores.now) }
@@ -90,8 +90,7 @@ fn is_gone(stores: &[RowStore], turn: Turn, number: usize) -> bool
     }
 }
 
-/// Brings links up to a row that the filter drops, of which this is the cell that it looks up. Such a row is in no
-/// sub-group.
+/// Updates links for a row that the filter drops, whose looked-up cell this is. Such a row is in no sub-group.
 fn turn_dropped(
     links: &mut Links,
     turn: Turn,
@@ -115,8 +114,8 @@ fn turn_dropped(
     }
 }
 
-/// Brings the state of a view up to the row of this number, which comes or goes as row `index` of those that do. It
-/// isn't visited where it is known that the view drops it. A row that isn't live doesn't go.
+/// Updates the state of a view for the row of this number, which is inserted or deleted as row `index` of a list. It
+/// isn't visited where it is known that the view drops it. A row that isn't live isn't deleted.
 fn follow_number(
     stores: &mut Vec<RowStore>,
     view: &View,
@@ -159,8 +158,8 @@ fn follow_number(
     turn_main_row(stores, view, &mut state.kept, turn, number, row, keys)
 }
 
-/// Brings the state of a view up to the rows of these numbers, which come or go. Each is visited at most once, and none
-/// of which it is known that the view drops it.
+/// Updates the state of a view for the rows of these numbers, which are inserted or deleted. Each is visited at most
+/// once, and not at all where it is known that the view drops it.
 fn follow_numbers(
     alloc: Global,
     stores: &mut Vec<RowStore>,
@@ -205,8 +204,8 @@ fn follow_numbers(
     Ok(())
 }
 
-/// Brings what is kept of a view up to rows of the main table that come or go. No row is opened of which it is known
-/// that the view drops it. A stale view is left as it is; after an error it is stale.
+/// Updates the state of a view for rows of the main table that are inserted or deleted. No row is opened of which it is
+/// known that the view drops it. A stale view is left as it is; after an error it is stale.
 #[tactic(auto, using(crate::proofs::ArrivalRows::opened_laws))]
 pub(crate) fn follow(
     alloc: Global,
@@ -248,7 +247,7 @@ pub(crate) fn follow(
     followed
 }
 
-/// Builds what is kept of a view anew, of all live rows of the main table.
+/// Builds the state of a view anew from all live rows of the main table.
 pub(crate) fn rebuild(
     alloc: Global,
     stores: &mut Vec<RowStore>,

@@ -1,10 +1,10 @@
-//! Tables, and views of them that are kept current by changes: edits of the tables' rows change what is kept of each
-//! view, and the rows of a view are read out of that.
+//! Tables, and views of them that are kept current: edits of the tables' rows change the state of each view, and the
+//! rows of a view are read from its state.
 //!
 //! `specs/Stores.antt` says which tables and rows stores hold, `TableChanges` of `row_keys` what edits do to them,
-//! `specs/Inputs.antt` what a view keeps of a row, `specs/ViewStates.antt` what is kept of a view, `specs/Reading.antt`
-//! and `specs/Shown.antt` what is read out of it, `specs/LiveEdits.antt` what edits do to tables and views together,
-//! and `specs/ViewParts.antt` and `specs/TablesParts.antt` of which parts all of it is made.
+//! `specs/Inputs.antt` what a view makes of a row, `specs/ViewStates.antt` what is stored of a view,
+//! `specs/Reading.antt` and `specs/Shown.antt` what is read from it, `specs/LiveEdits.antt` what edits do to tables and
+//! views together, and `specs/ViewParts.antt` and `specs/TablesParts.antt` of which parts all of it consists.
 #![tactic(auto)]
 
 mod alike;

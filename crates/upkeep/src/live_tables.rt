@@ -95,7 +95,7 @@ pub struct LiveTables {
     // The store of the main table comes first.
     stores: Vec<RowStore>,
     views: Vec<View>,
-    // What is kept of each view.
+    // What is stored of each view.
     states: Vec<ViewState>,
 }
 
@@ -139,7 +139,7 @@ impl LiveTables {
         })
     }
 
-    /// Takes the tables apart. The parts are all that is kept. If memory is refused, they are lost.
+    /// Takes the tables apart. The parts are all that is stored. If memory is refused, they are lost.
     pub fn into_parts(self) -> Result<LiveTablesParts, AllocError>
         ensures value { IfOk result (λ parts. live_with parts ≡ self) }
         ensures live { IfOk result (λ parts. AreLiveParts parts) }
@@ -158,7 +158,7 @@ impl LiveTables {
         })
     }
 
-    /// Makes the tables that have these parts. No row is opened, and those views are stale that are so in the parts.
+    /// Makes the tables that have these parts. No row is opened, and a view is stale where it is stale in the parts.
     pub fn from_parts(alloc: Global, parts: LiveTablesParts) -> Result<LiveTables, AllocError>
         requires { AreLiveParts parts }
         ensures { IfOk result (λ tables. tables ≡ live_with parts) }
@@ -218,7 +218,7 @@ impl LiveTables {
         requires { IsBatchOf (table_at (tables_in self.old.stores) 0).columns columns.items rows }
         ensures { Edited 0 (change_by Append columns.items rows) self.old self.new result }
     {
-        // It does nothing: the proof takes from it which rows come.
+        // It does nothing: the proof takes from it which rows are inserted.
         numbers_law();
         let arrivals = arrivals_for(self.alloc, &self.views, &self.states, &columns, rows)?;
         let change = self.stores[0].append_batch(columns, rows)?;
@@ -261,7 +261,7 @@ impl LiveTables {
         Ok(TableChange::Retracted(numbers))
     }
 
-    /// Makes an edit of a side table. The views that look it up follow.
+    /// Applies an edit of a side table, and updates the views that look it up.
     fn edit_side(
         &mut self,
         role: Role,
@@ -294,9 +294,9 @@ impl LiveTables {
         }
     }
 
-    /// Makes the edit that a batch is, by the role of its feed, and keeps the views current. On an error no row has
-    /// changed: it is the first cause for which the edit doesn't fit, or `Memory`. After `Memory` the views that are
-    /// made of the table's rows may be stale.
+    /// Applies the edit of a batch, by the role of its feed, and keeps the views current. On an error no row has
+    /// changed: it is the first cause for which the edit doesn't fit, or `Memory`. After `Memory` the views that read
+    /// the table may be stale.
     pub fn edit(
         &mut self,
         role: Role,
@@ -335,7 +335,7 @@ impl LiveTables {
         Ok(())
     }
 
-    /// Puts retracted rows of the main table back.
+    /// Restores retracted rows of the main table.
     fn put_back(&mut self, numbers: &[usize]) -> Result<(), AllocError>
         requires { CanPutBack (table_at (tables_in self.old.stores) 0) numbers.now (main_slots self.old.stores) }
         ensures { WentBack 0 (put_back numbers.now (main_slots self.old.stores)) (length numbers.now) self.old self.new
@@ -356,7 +356,7 @@ impl LiveTables {
         Ok(())
     }
 
-    /// Takes back a change of the main table.
+    /// Reverts a change of the main table.
     fn go_back_main(&mut self, change: &TableChange) -> Result<(), AllocError>
         requires kind { IsChangeOf 0 change.now }
         requires can { CanGoBack (table_at (tables_in self.old.stores) 0) change.now (main_slots self.old.stores) }
@@ -369,8 +369,7 @@ impl LiveTables {
         }
     }
 
-    /// Takes back a change of a side table. The views that look it up are brought up to that before its rows are
-    /// removed.
+    /// Reverts a change of a side table. The views that look it up are updated before its rows are removed.
     fn go_back_side(&mut self, table: usize, change: &TableChange) -> Result<(), AllocError>
         requires side { 0 < table }
         requires there { table < length self.old.stores }
@@ -400,8 +399,7 @@ impl LiveTables {
         }
     }
 
-    /// Takes back a change of a table's rows, and keeps the views current as `edit` does. On an error no row has
-    /// changed.
+    /// Reverts a change of a table's rows, and keeps the views current as `edit` does. On an error no row has changed.
     pub fn go_back(&mut self, table: usize, change: &TableChange) -> Result<(), AllocError>
         requires there { table < length self.old.stores }
         requires kind { IsChangeOf table change.now }
@@ -416,8 +414,8 @@ impl LiveTables {
         }
     }
 
-    /// Forgets the rows of a table that taking back a change would bring back: nothing else can, and the change will
-    /// never be taken back. It can't fail.
+    /// Releases the rows of a table that reverting a change would bring back: nothing else can, and the change will
+    /// never be reverted. It can't fail.
     pub fn release(&mut self, table: usize, change: &TableChange)
         requires there { table < length self.old.stores }
         requires out { AllOut (restores change.now) (rows_at (rows_in self.old.stores) table) }
@@ -448,7 +446,7 @@ impl LiveTables {
         Ok(())
     }
 
-    /// What the view at this place shows, read out of what is kept of it. A stale view is built anew first.
+    /// What the view at this index shows, read from its state. A stale view is built anew first.
     pub fn view_rows(&mut self, place: usize) -> Result<Shown, AllocError>
         requires { place < length self.old.views }
         ensures rows { IfOk result (ShowsView self.old.stores (view_at self.old.views place)) }
@@ -472,7 +470,7 @@ impl LiveTables {
         self.stores[0].table().columns.len()
     }
 
-    /// Where the visited rows of the main table lie, which are live: as many as lie one after the other at once.
+    /// Where the visited rows of the main table lie, which are live, in ranges of consecutive rows.
     pub fn ranges(&self, visits: Visits) -> Result<Vec<RowRange<'_>>, AllocError>
         requires { All (IsLiveAt (main_slots self.now.stores)) visits }
         ensures rows { IfOk result (λ ranges. ranges_rows ranges.items
@@ -482,7 +480,7 @@ impl LiveTables {
         self.stores[0].ranges(visits)
     }
 
-    /// Where the visited rows of the main table lie, which are live: each by itself.
+    /// Where the visited rows of the main table lie, which are live, each by itself.
     pub fn locations(&self, visits: Visits) -> Result<StoredLocations<'_>, AllocError>
         requires { All (IsLiveAt (main_slots self.now.stores)) visits }
         ensures rows { IfOk result (λ found. located_rows found.batches.items found.locations.items
@@ -493,7 +491,7 @@ impl LiveTables {
         self.stores[0].locations(visits)
     }
 
-    /// Where live rows of a side table lie, each by itself. Where there is no number, the place is in no batch.
+    /// Where live rows of a side table lie, each by itself. Where there is no number, the location is in no batch.
     pub fn locations_if(
         &self,
         table: usize,

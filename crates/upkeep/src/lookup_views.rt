@@ -1,4 +1,4 @@
-//! Brings what is kept of views up to changes of a side table that they look up.
+//! Updates the states of views for changes of a side table that they look up.
 
 ghost use Rattle.std.specs.Prelude.{◌≡◌, ◌<◌, ◌≤◌, ◌+◌, ◌*◌, All, length, map, true, OnErr, OnOk};
 ghost use Rattle.values.specs.Keys.{datum_of_key};
@@ -45,7 +45,7 @@ fn looks_up(view: &View, table: usize) -> bool
     }
 }
 
-/// Marks what is kept of the views stale that look up a table.
+/// Marks the views stale that look up a table.
 fn mark_lookups_stale(views: &[View], states: &mut Vec<ViewState>, table: usize)
     requires alike { length states.old.items ≡ length views.now }
     ensures { states.new.items ≡ lookups_stale table views.now states.old.items }
@@ -55,9 +55,9 @@ fn mark_lookups_stale(views: &[View], states: &mut Vec<ViewState>, table: usize)
     }
 }
 
-/// Brings what is kept of a view up to a change of a side table that names `keys`, by the rows of the main table with
-/// these numbers, which refer to these keys: what the view made of a row before goes, and what it makes of it now
-/// comes, but where the same is kept of both. After an error what is kept has no meaning.
+/// Updates the state of a view for a change of a side table that names `keys`, by the rows of the main table with these
+/// numbers, which refer to these keys: each old projected row is removed and the new one is added, unless the same is
+/// stored for both. After an error the state is meaningless.
 fn remake_rows(
     alloc: Global,
     stores: &mut Vec<RowStore>,
@@ -95,9 +95,9 @@ fn remake_rows(
     remake_numbers(alloc, stores, view, kept, &sides, numbers)
 }
 
-/// Brings what is kept of a view up to a change of a side table that it looks up. Only rows of the main table are
-/// opened that refer to one of `keys`, those that the change names. A stale view is left as it is. After an error the
-/// state is as it was, or stale.
+/// Updates the state of a view for a change of a side table that it looks up. Only rows of the main table are opened
+/// that refer to one of `keys`, those that the change names. A stale view is left as it is. After an error the state is
+/// as it was, or stale.
 fn follow_lookup(
     alloc: Global,
     stores: &mut Vec<RowStore>,
@@ -161,8 +161,8 @@ fn follow_lookup(
     }
 }
 
-/// Brings what is kept of the views up to a change of a side table that names `keys`. After an error all views that
-/// look the table up are stale.
+/// Updates the views' states for a change of a side table that names `keys`. After an error all views that look the
+/// table up are stale.
 fn follow_lookups_of(
     alloc: Global,
     stores: &mut Vec<RowStore>,
@@ -213,8 +213,8 @@ fn follow_lookups_of(
     Ok(())
 }
 
-/// Brings what is kept of the views up to a change of a side table that was made or was taken back, as `turn` says.
-/// Stale views are left as they are. After an error all views that look the table up are stale.
+/// Updates the views' states for a change of a side table that was made or reverted, as `turn` says. Stale views are
+/// left as they are. After an error all views that look the table up are stale.
 pub(crate) fn follow_lookups(
     alloc: Global,
     stores: &mut Vec<RowStore>,

@@ -7,7 +7,7 @@ use row_keys::RowStore;
 use top_rows::OrderedParts;
 use view_lang::View;
 
-/// What is kept of a view, and whether it is stale. It holds no row of a table: rows are named by number.
+/// What is stored of a view, and whether it is stale. It holds no row of a table, but numbers of rows.
 #[derive(Debug, Drop)]
 pub struct ViewParts {
     pub stale: bool,
@@ -15,7 +15,7 @@ pub struct ViewParts {
     pub links: LinksParts,
 }
 
-/// What is kept of the rows of the main table by the key that they look up.
+/// What is stored of the rows of the main table by the key that they look up.
 #[derive(Debug, Drop)]
 pub enum LinksParts {
     /// Their numbers; none where the view looks up no table.
@@ -24,21 +24,21 @@ pub enum LinksParts {
     SubGroups(GroupsParts),
 }
 
-/// What is kept of the rows that a view is made of: their order, or their groups.
+/// What is stored of the projected rows of a view: their order, or their groups.
 #[derive(Debug, Drop)]
 pub enum MaterializedParts {
-    /// Nothing, of a plain view that shows each live row in its place.
+    /// Nothing, for a plain view that shows each live row in the order of the numbers.
     Live,
-    /// The places of the rows of a plain view in its order.
+    /// The entries of the rows of a plain view in its order.
     Order(OrderedParts),
     Groups(RankedParts),
 }
 
-/// What `LiveTables` are made of. The stores, of which the main table's comes first, alone hold rows.
+/// The parts of `LiveTables`. The stores, of which the main table's comes first, alone hold rows.
 #[derive(Drop)]
 pub struct LiveTablesParts {
     pub stores: Vec<RowStore>,
     pub views: Vec<View>,
-    /// What is kept of each view.
+    /// What is stored of each view.
     pub states: Vec<ViewParts>,
 }

@@ -1,4 +1,4 @@
-//! Reads what a view shows out of what is kept of it.
+//! Reads what a view shows from its state.
 
 ghost use Rattle.std.specs.Prelude.{
   ◌≡◌,
@@ -66,7 +66,7 @@ use view_lang::{
     Lookup, Output, Outputs, RowView, View, image_law, one_by_one_law, project, rows_law,
 };
 
-/// What can be read out of what is kept of a view. It does nothing: its contract is the theorem.
+/// What can be read from a view's state. It does nothing: its contract is the theorem.
 fn reading_law()
     ensures groups { GroupsAreShown }
     ensures live { LiveAreShown }
@@ -78,7 +78,7 @@ fn reading_law()
     rows_law();
 }
 
-/// The row that a plain view with these outputs makes of the row of this number, which is visited.
+/// The output row of a plain view with these outputs for the row of this number, which is visited.
 fn make_row(
     alloc: Global,
     stores: &mut Vec<RowStore>,
@@ -117,7 +117,7 @@ fn project_some(
     }
 }
 
-/// What a plain view with these outputs makes of the rows of these numbers. Each is visited once.
+/// The output rows of a plain view with these outputs for the rows of these numbers. Each is visited once.
 fn make_rows(
     alloc: Global,
     stores: &mut Vec<RowStore>,
@@ -143,7 +143,7 @@ fn make_rows(
     Ok(made)
 }
 
-/// The numbers of the rows that a plain view shows where it shows each row in its place.
+/// The numbers of the rows that a plain view shows where it shows each row in the order of the numbers.
 fn first_live(alloc: Global, stores: &[RowStore], view: &View) -> Result<Vec<usize>, AllocError>
     requires { 0 < length stores.now }
     ensures { IfOk result (λ first. (tables : List Table) (side : Side)
@@ -216,7 +216,8 @@ fn side_numbers(
     Ok(numbers)
 }
 
-/// Whether a view that looks up rows of a side table shows so many rows from where they are stored.
+/// Whether a view that looks up rows of a side table is written column by column for this many rows, from where they
+/// are stored.
 fn shows_joined(stores: &[RowStore], view: &View, lookup: Lookup, count: usize) -> bool
     requires { suc lookup.side < length stores.now }
     ensures { result ≡ true → view.now.coded_outputs ≡ [] }
@@ -236,7 +237,7 @@ fn visit_all(stores: &mut Vec<RowStore>, numbers: Vec<usize>) -> Visits
     stores[0].visit_all(numbers)
 }
 
-/// The columns of joined rows that a plain view with these outputs shows, of which these are the numbers. Only these are
+/// The columns of joined rows that a plain view with these outputs shows for the rows of these numbers. Only these are
 /// visited.
 fn show_joined(
     alloc: Global,
@@ -263,7 +264,7 @@ fn show_joined(
     })
 }
 
-/// The columns of the main table that a plain view with these outputs shows, of which these are the numbers. Only these
+/// The columns of the main table that a plain view with these outputs shows for the rows of these numbers. Only these
 /// are visited.
 fn show_stored(
     alloc: Global,
@@ -282,7 +283,7 @@ fn show_stored(
     Ok(StoredColumns { columns, visits })
 }
 
-/// What a plain view with these outputs shows, of which these are the numbers. Only these are visited.
+/// What a plain view with these outputs shows for the rows of these numbers. Only these are visited.
 fn show_columns(
     alloc: Global,
     stores: &mut Vec<RowStore>,
@@ -315,7 +316,7 @@ fn show_columns(
     Ok(Shown::Rows(rows))
 }
 
-/// What a plain view shows, of which these are the numbers. Only these are visited.
+/// What a plain view shows for the rows of these numbers. Only these are visited.
 fn show_numbers(
     alloc: Global,
     stores: &mut Vec<RowStore>,
@@ -338,7 +339,7 @@ fn show_numbers(
     }
 }
 
-/// What a plain view shows in the order that is kept of it.
+/// What a plain view shows whose order is materialized.
 fn show_first(
     alloc: Global,
     stores: &mut Vec<RowStore>,
@@ -357,7 +358,7 @@ fn show_first(
     show_numbers(alloc, stores, view, numbers)
 }
 
-/// What a plain view shows where it shows each row in its place.
+/// What a plain view shows where it shows each row in the order of the numbers.
 fn show_live(alloc: Global, stores: &mut Vec<RowStore>, view: &View) -> Result<Shown, AllocError>
     requires main { 0 < length stores.old.items }
     requires kept { IsReadable (tables_in stores.old.items) view.now (side_from stores.old.items view.now)
@@ -380,7 +381,7 @@ fn group_rows(alloc: Global, view: &View, groups: &RankedGroups) -> Result<Vec<R
     groups.first_rows(alloc, view.first.unwrap_or(MAX_MAIN_ROWS))
 }
 
-/// What a view shows, out of what is kept of it, which isn't stale. A view of groups opens no row.
+/// What a view shows, from its materialized rows, which aren't stale. A view of groups opens no row.
 pub(crate) fn show_materialized(
     alloc: Global,
     stores: &mut Vec<RowStore>,

@@ -1,4 +1,4 @@
-//! Brings what is kept of a view up to rows of the main table for which another row of a side table is looked up.
+//! Updates the state of a view for rows of the main table for which another row of a side table is looked up.
 
 ghost use Rattle.std.specs.Prelude.{◌≡◌, ◌<◌, ◌≤◌, ◌+◌, [], ◌∷◌, All, OnOk, length, true};
 ghost use Rattle.std.specs.Option.{option_map};
@@ -18,8 +18,8 @@ use std::alloc::{AllocError, Global};
 use values::KeyBuffer;
 use view_lang::View;
 
-/// Whether the same is kept of what a view made of a row, joined, and of what it makes of it now; `None` where it
-/// leaves the row out.
+/// Whether a view stores the same for the old and the new joined row of a row of the main table; each is `None` where
+/// the view leaves the row out.
 fn is_reprojected_alike(
     view: &View,
     kept: &Materialized,
@@ -36,9 +36,9 @@ fn is_reprojected_alike(
     }
 }
 
-/// Brings what is kept of a view up to a row of which the view made one thing and makes another now, joined; `None`
-/// where it leaves the row out. Where the same is kept of both, nothing is touched. After an error what is kept has no
-/// meaning.
+/// Updates what is stored of a view for a row of the main table whose joined row changes from one to the other; each is
+/// `None` where the view leaves the row out. Where the same is stored for both, nothing is touched. After an error what
+/// is stored is meaningless.
 fn remake_row(
     view: &View,
     kept: &mut Materialized,
@@ -59,8 +59,8 @@ fn remake_row(
     turn_joined(view, kept, Turn::Come, number, after)
 }
 
-/// Brings what is kept of a view up to the row of this number, for which another row of a side table is looked up. The
-/// row is visited once.
+/// Updates the state of a view for the row of this number, for which another row of a side table is looked up. The row
+/// is visited once.
 fn remake_number(
     stores: &mut Vec<RowStore>,
     view: &View,
@@ -87,8 +87,8 @@ fn remake_number(
     remake_row(view, kept, number, &before, &after)
 }
 
-/// Brings what is kept of a view up to the rows of these numbers, for which other rows of a side table are looked up.
-/// Each is visited at most once. After an error what is kept has no meaning.
+/// Updates the state of a view for the rows of these numbers, for which other rows of a side table are looked up. Each
+/// is visited at most once. After an error the state is meaningless.
 pub(crate) fn remake_numbers(
     alloc: Global,
     stores: &mut Vec<RowStore>,

@@ -1,4 +1,4 @@
-//! What is read of a view: its rows, or where they are stored.
+//! What is read from a view: its rows, or where they are stored.
 
 ghost use Rattle.std.specs.Prelude.{◌≡◌, ◌/◌, ◌<◌, All, IfOk, [], map, nat_le, true};
 
@@ -14,7 +14,7 @@ pub enum Shown {
     Rows(Vec<Row>),
     /// Columns of the main table as they are stored, none of which is coded.
     Stored(StoredColumns),
-    /// Columns of the main table and of a side table as they are stored, none of which is coded.
+    /// Columns of the main table and of a side table, as they are stored, none of which is coded.
     Joined(JoinedColumns),
 }
 
@@ -26,7 +26,7 @@ pub struct StoredColumns {
 }
 
 /// Columns of joined rows, by their positions: the main table's come first, then the side table's. The rows are those
-/// that are visited, and for each of them the row of this number in this side table, or none.
+/// that are visited, each with the row of this number in this side table, or with none.
 #[derive(Drop)]
 pub struct JoinedColumns {
     pub columns: Vec<usize>,
@@ -35,11 +35,11 @@ pub struct JoinedColumns {
     pub side_numbers: Vec<Option<usize>>,
 }
 
-/// A view that shows at least one in this many of a table's rows is written column by column.
+/// A view that shows at least one in this many rows of a table is written column by column.
 const ONE_IN: usize = 8;
 
-/// Whether so many of all rows of a table are written sooner column by column, each from where it is stored, than row by
-/// row. What is found for that in each of the table's batches pays for many rows only.
+/// Whether `count` of `all` rows of a table are written faster column by column, each from where it is stored, than row
+/// by row: the work for each of the table's batches pays for many rows only.
 pub fn are_many(count: usize, all: usize) -> bool
     ensures { result ≡ nat_le (all / 8) count }
 {

@@ -17,8 +17,8 @@ use std::collections::BTreeMap;
 use values::{Key, KeyBuffer, Row, Value, key_law};
 use view_lang::{Lookup, RowView};
 
-/// The rows of a side table by the keys that a change names, as they are without the change and with it. `None` stands
-/// under a key that no row has.
+/// The rows of a side table by the keys that a change names, without the change and with it; `None` for a key that no
+/// row has.
 #[derive(Drop)]
 pub(crate) struct SideRows {
     pub before: BTreeMap<Key, Option<Row>>,
@@ -57,8 +57,8 @@ fn rows_with_keys(
     Ok(rows)
 }
 
-/// The rows of a side table with these keys, as they are where a change of it that was turned is turned back, and as
-/// they are now. The store is what it was.
+/// The rows of a side table with these keys, before the change that `turn` made or reverted, and now. The store is left
+/// as it was.
 pub(crate) fn side_rows(
     alloc: Global,
     store: &mut RowStore,

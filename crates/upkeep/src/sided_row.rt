@@ -10,7 +10,7 @@ use std::alloc::{AllocError, Global};
 use values::{CellView, Kind, Value};
 use view_lang::{Lookup, Missing, RowView, View};
 
-/// A row of the main table with the cells of a side table's row, or with so many nulls where there is none.
+/// A row of the main table with the cells of a side table's row, or with as many nulls where there is none.
 #[derive(Clone, Copy)]
 pub(crate) struct SidedRow<'a> {
     pub main: &'a StoredRow<'a>,

@@ -1,4 +1,4 @@
-//! Moves the sub-groups of a view's rows from group to group, where rows of the side table change that they look up.
+//! Moves sub-groups of a view from group to group, where rows of the side table change that they look up.
 
 ghost use Rattle.std.specs.Prelude.{◌≡◌, ◌++◌, ◌<◌, IfOk, OnOk, length, replicate, true};
 ghost use Rattle.std.specs.List.Sorted.{IsStrictlySortedBy};
@@ -45,7 +45,7 @@ use sub_groups::{SubGroups, passes_others, sub_group_law};
 use values::{KeyBuffer, Kind, Row, Value};
 use view_lang::{Lookup, Missing, View, image_law};
 
-/// Adds cells behind those of a row.
+/// Appends cells to a row.
 fn extend(row: &mut Row, more: Row) -> Result<(), AllocError>
     ensures { OnOk result (row.new.items ≡ row.old.items ++ more.items) }
 {
@@ -55,7 +55,7 @@ fn extend(row: &mut Row, more: Row) -> Result<(), AllocError>
     Ok(())
 }
 
-/// So many nulls.
+/// This many nulls.
 fn nulls(alloc: Global, count: usize) -> Result<Row, AllocError>
     ensures { IfOk result (λ row. row.items ≡ replicate count null) }
 {
@@ -66,7 +66,7 @@ fn nulls(alloc: Global, count: usize) -> Result<Row, AllocError>
     Ok(row)
 }
 
-/// The cells of a side table's row, or the nulls that stand for them; `None` where a row without one is left out.
+/// The cells of a side table's row, or nulls in their place; `None` where a row without one is left out.
 fn side_cells(
     alloc: Global,
     lookup: Lookup,
@@ -133,7 +133,7 @@ fn place_of(
     Ok(Some(place))
 }
 
-/// Moves the rows of a sub-group out of the group to which they belong, or into it.
+/// Removes the rows of a sub-group from the group to which they belong, or adds them to it.
 fn turn_sub_group(
     alloc: Global,
     stores: &[RowStore],
@@ -153,7 +153,7 @@ fn turn_sub_group(
     ensures columns { OnOk result (groups.new.groups.columns ≡ groups.old.groups.columns) }
     ensures ranking { groups.new.ranking ≡ groups.old.ranking }
 {
-    // It does nothing: the proof takes from it where the rows of a sub-group go.
+    // It does nothing: the proof takes from it to which group the rows of a sub-group belong.
     sub_group_law();
     let Some(group) = sub_groups.group(tuple) else {
         return Ok(());
@@ -173,7 +173,7 @@ fn turn_sub_group(
     }
 }
 
-/// Moves the rows of these sub-groups out of the groups to which they belong, or into them.
+/// Removes the rows of these sub-groups from the groups to which they belong, or adds them to these.
 fn turn_sub_groups(
     alloc: Global,
     stores: &[RowStore],
@@ -212,9 +212,9 @@ fn turn_sub_groups(
     Ok(())
 }
 
-/// Brings what is kept of a view up to a change of a side table that it looks up: each sub-group of rows that refer to
-/// a key that the change names goes from the group to which it belonged, and comes to the one to which it belongs now.
-/// No row is opened. After an error what is kept has no meaning.
+/// Updates the groups of a view for a change of a side table that it looks up: each sub-group of rows that refer to a
+/// key that the change names is removed from the group to which it belonged, and added to the one to which it belongs
+/// now. No row is opened. After an error the groups are meaningless.
 pub(crate) fn move_sub_groups(
     alloc: Global,
     stores: &mut Vec<RowStore>,

@@ -1,4 +1,4 @@
-//! Takes changes of side tables back for a while, and makes them again.
+//! Hides changes of side tables for a while, and shows them again.
 
 ghost use Rattle.std.specs.Prelude.{◌≡◌};
 ghost use Rattle.row_keys.specs.Store.{with_slots};

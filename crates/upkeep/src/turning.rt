@@ -1,4 +1,4 @@
-//! Brings what is kept of a view up to one row that comes or goes, where the row lies.
+//! Updates what is stored of a view for one row that is inserted or deleted, where the row lies.
 
 ghost use Rattle.std.specs.Prelude.{◌≡◌, ◌<◌, ◌∷◌, [], OnOk, Some};
 ghost use Rattle.std.specs.Map.{values_of};
@@ -33,7 +33,7 @@ use top_rows::Ordered;
 use values::CellView;
 use view_lang::{Lookup, Output, Outputs, RowView, ShownRow, View};
 
-/// Brings an order up to the row that is shown of a joined row.
+/// Updates an order for the output row of a joined row.
 fn turn_order<R: RowView>(
     order: &mut Ordered,
     outputs: &[Output],
@@ -58,7 +58,7 @@ fn turn_order<R: RowView>(
     }
 }
 
-/// Brings groups up to a joined row.
+/// Updates groups for a joined row.
 fn turn_groups<R: RowView>(
     groups: &mut RankedGroups,
     turn: Turn,
@@ -85,7 +85,7 @@ fn turn_groups<R: RowView>(
     }
 }
 
-/// Brings what is kept of a view up to a joined row that the view's filter keeps. After an error it has no meaning.
+/// Updates what is stored of a view for a joined row that passes the view's filter. After an error it is meaningless.
 fn turn_row<R: RowView>(
     view: &View,
     kept: &mut Materialized,
@@ -113,8 +113,8 @@ fn turn_row<R: RowView>(
     }
 }
 
-/// Brings what is kept of a view up to a row of the main table that comes or goes, joined; `None` changes nothing: the
-/// view leaves the row out. After an error what is kept has no meaning.
+/// Updates what is stored of a view for a row of the main table that is inserted or deleted, joined; `None` changes
+/// nothing: the view leaves the row out. After an error what is stored is meaningless.
 pub(crate) fn turn_joined<R: RowView>(
     view: &View,
     kept: &mut Materialized,
@@ -134,7 +134,7 @@ pub(crate) fn turn_joined<R: RowView>(
     turn_row(view, kept, turn, number, row)
 }
 
-/// Brings referrers up to the cell by which a row refers.
+/// Updates referrers for the cell by which a row refers.
 pub(crate) fn turn_referrer(
     referrers: &mut Referrers,
     turn: Turn,
@@ -157,7 +157,8 @@ pub(crate) fn turn_referrer(
     }
 }
 
-/// Brings referrers up to a row of the main table that comes or goes. Nothing refers where no table is looked up.
+/// Updates referrers for a row of the main table that is inserted or deleted. Nothing refers where no table is looked
+/// up.
 fn turn_referring(
     referrers: &mut Referrers,
     lookup: Option<Lookup>,
@@ -174,7 +175,7 @@ fn turn_referring(
     turn_referrer(referrers, turn, number, row.cell(lookup.on))
 }
 
-/// Brings sub-groups up to a row of the main table that comes or goes.
+/// Updates sub-groups for a row of the main table that is inserted or deleted.
 fn turn_sub_row(
     sub_groups: &mut SubGroups,
     view: &View,
@@ -199,7 +200,7 @@ fn turn_sub_row(
     }
 }
 
-/// Brings links up to a row of the main table that comes or goes. After an error they have no meaning.
+/// Updates links for a row of the main table that is inserted or deleted. After an error they are meaningless.
 pub(crate) fn turn_link(
     links: &mut Links,
     view: &View,

@@ -1,4 +1,4 @@
-//! Takes what is kept of views apart, and makes it again of its parts.
+//! Takes the states of views apart, and makes them again of their parts.
 
 ghost use Rattle.std.specs.Prelude.{◌≡◌, All, IfOk, map};
 ghost use Rattle.upkeep.specs.ViewParts.{AreLinksParts, AreMaterializedParts, IsState, kept_with, links_with, state_with};
@@ -24,7 +24,7 @@ impl Materialized {
         }
     }
 
-    /// Makes what has these parts.
+    /// Makes the value that has these parts.
     fn from_parts(alloc: Global, parts: MaterializedParts) -> Result<Materialized, AllocError>
         requires { AreMaterializedParts parts }
         ensures { IfOk result (λ kept. kept ≡ kept_with parts) }
@@ -53,7 +53,7 @@ impl Links {
         }
     }
 
-    /// Makes what has these parts.
+    /// Makes the links that have these parts.
     fn from_parts(alloc: Global, parts: LinksParts) -> Result<Links, AllocError>
         requires { AreLinksParts parts }
         ensures { IfOk result (λ links. links ≡ links_with parts) }

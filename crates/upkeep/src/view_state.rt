@@ -1,4 +1,4 @@
-//! States of views: what is kept of each.
+//! States of views: what is stored of each.
 
 ghost use Rattle.std.specs.Prelude.{◌≡◌, [], false, IfOk, IfSome, List, None, true};
 ghost use Rattle.view_lang.specs.OutputsSeen.{outputs_of};
@@ -23,26 +23,27 @@ use sub_groups::SubGroups;
 use top_rows::Ordered;
 use view_lang::{Lookup, Missing, Outputs, View};
 
-/// What is kept of the rows that a view is made of: their order, or their groups and the order of the groups' rows.
+/// What is stored of the projected rows of a view: their order, or their groups and the order of the groups' rows.
 #[derive(Debug, Drop)]
 pub(crate) enum Materialized {
-    /// Nothing, of a plain view that shows each row in its place: the numbers of the live rows are its order.
+    /// Nothing, for a plain view that shows each row in the order of the numbers: the numbers of the live rows are its
+    /// order.
     Live,
-    /// The places of the rows of a plain view in its order.
+    /// The entries of the rows of a plain view in its order.
     Order(Ordered),
-    /// The groups of the rows, and the places of the groups' rows in the view's order.
+    /// The groups of the rows, and the entries of the groups' rows in the view's order.
     Groups(RankedGroups),
 }
 
-/// Whether rows come or go.
+/// Whether rows are inserted or deleted.
 #[derive(Clone, Copy, Debug, PartialEq, Eq)]
 pub(crate) enum Turn {
     Come,
     Go,
 }
 
-/// The state of a view: what is kept of it, and whether it is stale. What is kept of a stale view has no meaning; it is
-/// built anew before the view is read.
+/// The state of a view: what is stored of it, and whether it is stale. What is stored of a stale view is meaningless;
+/// it is built anew before the view is read.
 #[derive(Debug, Drop)]
 pub(crate) struct ViewState {
     pub stale: bool,
@@ -50,7 +51,7 @@ pub(crate) struct ViewState {
     pub links: Links,
 }
 
-/// What is kept of the rows of the main table by the key that they look up.
+/// What is stored of the rows of the main table by the key that they look up.
 #[derive(Debug, Drop)]
 pub(crate) enum Links {
     /// Their numbers; none where the view looks up no table.
@@ -81,8 +82,8 @@ fn leaves_none(lookup: Option<Lookup>) -> bool
     }
 }
 
-/// Whether a view shows each row of the main table in its place: a plain one that has no order and no filter, and
-/// leaves no row out.
+/// Whether a view shows each row of the main table in the order of the numbers: a plain one that has no order and no
+/// filter, and leaves no row out.
 fn shows_each(view: &View) -> bool
     ensures { result ≡ true → ShowsEach view.now }
 {
@@ -92,7 +93,7 @@ fn shows_each(view: &View) -> bool
         && leaves_none(view.lookup)
 }
 
-/// What is kept of a view of no rows.
+/// What is stored of a view without rows.
 fn materialized_of_none(alloc: Global, view: &View) -> Result<Materialized, AllocError>
     ensures kept { IfOk result (λ kept. IsMaterialized view.now kept []) }
     ensures read { IfOk result (λ kept. IfSome (columns_in kept) (KeepRead view.now.outputs)) }
@@ -113,7 +114,7 @@ fn materialized_of_none(alloc: Global, view: &View) -> Result<Materialized, Allo
     }
 }
 
-/// Whether nothing is kept of a view and of what refers for it: rows come and go without it.
+/// Whether nothing is stored of a view's rows and links: rows are inserted and deleted without it.
 pub(crate) fn materializes_nothing(view: &View, state: &ViewState) -> bool
     ensures { result ≡ true → (state.now.kept ≡ materialized_is.Live) × (view.now.lookup ≡ None) }
 {
@@ -123,8 +124,7 @@ pub(crate) fn materializes_nothing(view: &View, state: &ViewState) -> bool
     }
 }
 
-/// What is kept of no rows by the key that they look up, for a view of which this is kept. The main table has `width`
-/// columns.
+/// The links of no rows, for a view whose materialized rows these are. The main table has `width` columns.
 fn links_of_none(
     alloc: Global,
     view: &View,
@@ -147,7 +147,7 @@ fn links_of_none(
 }
 
 impl ViewState {
-    /// The state of a view of no rows. The main table has `width` columns.
+    /// The state of a view without rows. The main table has `width` columns.
     pub(crate) fn new(alloc: Global, view: &View, width: usize) -> Result<ViewState, AllocError>
         ensures fresh { IfOk result (λ s. s.stale ≡ false) }
         ensures kept { IfOk result (λ s. IsMaterialized view.now s.kept []) }

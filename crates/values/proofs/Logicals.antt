@@ -1,4 +1,4 @@
--- The logical fields that any fields are turned into.
+-- The logical fields of any fields.
 use Rattle.std.proofs.Common.{◌≡◌, ℕ, true, String, List, [], ◌∷◌, ◌++◌, map, refl, ap, sym, ◌∙◌}
 use Rattle.std.specs.Prelude.{string_bytes}
 use Rattle.std.specs.declared.alloc.Global.{Global}

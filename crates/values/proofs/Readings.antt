@@ -1,4 +1,4 @@
--- Lemmas on readings, for loops and combinations of what is read.
+-- Lemmas on readings, for loops and combinations of readings.
 use Rattle.std.proofs.Common.{
   ◌≡◌,
   ◌⊎◌,
@@ -52,7 +52,7 @@ use Rattle.values.specs.Reading.{
   with_front,
 }
 
--- A fault that stands may be answered, and where another fault is read into the same one, that too.
+-- A fault of a reading may be answered, and where another fault is read into the same one, that too.
 pub fails-stands : {X : Type 0} (c : StreamFault) (m : Reading X) → FailsWith m c → Fails c m
 fails-stands fault.Memory m h = tt
 fails-stands _ m h = h
@@ -105,7 +105,7 @@ stands_mapped f (Err fs) c h = h
 pub fails_mapped : {X Y : Type 0} (f : X → Y) (m : Reading X) (c : StreamFault) → Fails c m → Fails c (mapped f m)
 fails_mapped f m c h = fails_along c m (mapped f m) (λ d. stands_mapped f m d) h
 
--- what a caller answers for the one that it called
+-- the answer of a caller for that of its callee
 pub ruleset failing =
     (fails-stands, both_left, both_right, fails_left, fails_right, bind_left, fails_first, stands_mapped, fails_mapped)
 
@@ -140,7 +140,7 @@ pub each_none : {F X : Type 0} (f : ℕ → ReadingOf F X) (i n : ℕ) → n ≤
 unfolding each
 each_none f i n h = let k : n - i ≡ 0 = omega arith in rw k refl
 
--- the parts of a pair of readings that is good
+-- the parts of a pair of valid readings
 pub both_Ok :
     {F X Y Z : Type 0} (g : X → Y → Z) (a : ReadingOf F X) (b : ReadingOf F Y) (z : Z) → both g a b ≡ Ok z
     → (x : X) × (y : Y) × (a ≡ Ok x) × (b ≡ Ok y) × (g x y ≡ z)
@@ -204,7 +204,7 @@ each_get f i (suc n) xs e (suc k) h =
     let j : i + suc k ≡ (i + 1) + k = omega arith in
     (r.0, subst P p.4 r.1, ap f j ∙ r.2)
 
--- what holds of all that is read so holds of each value
+-- what holds of all such readings holds of each value
 pub each_all :
     {F X : Type 0} (P : X → Type 0) (f : ℕ → ReadingOf F X) (n : ℕ) (xs : List X) → each f 0 n ≡ Ok xs
     → ((k : ℕ) (x : X) → f k ≡ Ok x → P x) → All P xs
@@ -291,7 +291,7 @@ front_end f i n xs w h k =
 
 pub ruleset gathering = (front_none, front_step, front_fault, front_fails, front_end)
 
--- A loop that checks: what is left decides the whole.
+-- A loop that checks: what remains decides the whole.
 pub decides_self : {F X : Type 0} (m : ReadingOf F X) → Decides m m
 decides_self m = record { valid = λ h. h; fault = λ c h. h }
 

@@ -1,4 +1,4 @@
--- What reads no item of a list and no child of a struct is the same of a value and of what a view says of it.
+-- What reads no item of a list and no child of a struct is the same for a value and for its view.
 use Rattle.std.proofs.Common.{◌≡◌, refl}
 use Rattle.values.specs.Datum.{Datum, null, truth, whole, text, bytes, list, structure, is_null}
 use Rattle.values.specs.CellViews.{shallow}

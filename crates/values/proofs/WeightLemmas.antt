@@ -46,7 +46,7 @@ saturated_small : (k : ℕ) → k < 2 ^ 64 → k ≡ saturated k
 unfolding saturated
 saturated_small k h = grind arith
 
--- a weight that 64 bits hold is told as it is
+-- a weight that fits into 64 bits is exact
 pub saturated-exact : (k : ℕ) → k < 2 ^ 64 → saturated k ≡ k
 unfolding saturated
 saturated-exact k h = grind arith
@@ -90,7 +90,7 @@ struct-saturated l kids x r is below sum =
 
 pub ruleset own_null_weights = (null_weight-saturated, struct-saturated)
 
--- one number more of a sum that is being made
+-- one number more of a sum
 sum_more : (s x t a r w : ℕ) → x ≡ saturated a → t ≡ saturated (s + x) → saturated (s + (a + r)) ≡ w
     → saturated (t + r) ≡ w
 sum_more s x t a r w is sum left =

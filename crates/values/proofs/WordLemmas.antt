@@ -1,4 +1,4 @@
--- The order of bytes by the numbers that they spell.
+-- The order of bytes by the numbers that they form.
 use Rattle.std.proofs.Common.{◌≡◌, refl, ap, ap₂, sym, ◌∙◌, arith, true≢false}
 use Rattle.std.proofs.Math.ListN.{get_or}
 use Rattle.std.proofs.lemmas.List.{length-drop, length-take-le, drop-drop, take_all}

@@ -1,4 +1,4 @@
--- The numbers and names of the causes, as they are printed: 1 to 30 break a stream, 41 to 45 an edit, 51 to 56 a call,
+-- The numbers and names of the causes, as they are printed: 1 to 30 refuse a stream, 41 to 45 an edit, 51 to 56 a call,
 -- and 61 to 70 a configuration.
 use Rattle.std.specs.Prelude.{ℕ, List, codes}
 use Rattle.values.specs.declared.causes.Cause.{Cause}

@@ -11,7 +11,7 @@ use Rattle.values.specs.declared.cell_view.CellView.TheVariants.{
   Struct,
 }
 
--- What a view of a cell says of its value: all of it, but of a list or a struct only that it is one.
+-- What a view of a cell gives of its value: all of it, but of a list or a struct only that it is one.
 abbrev pub shallow : Datum → Datum
 shallow null = null
 shallow (truth b) = truth b
@@ -21,7 +21,7 @@ shallow (bytes b) = bytes b
 shallow (list es) = list no_items
 shallow (structure es) = structure no_items
 
--- the value that a view says
+-- the value that a view gives
 abbrev pub viewed : CellView → Datum
 viewed Null = null
 viewed (Booleans b) = truth b

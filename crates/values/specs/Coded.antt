@@ -1,4 +1,5 @@
--- Which columns of a table can be written with dictionaries: texts. Such columns are named by their positions, in order.
+-- Which columns of a table can be written with dictionaries: texts. Such columns are named by their positions, in
+-- order.
 use Rattle.std.specs.Prelude.{
   ◌≡◌,
   ℕ,

@@ -1,4 +1,4 @@
--- The types of columns: their bounds, and how their values lie in memory.
+-- The types of columns: their bounds, and their layouts.
 use Rattle.std.specs.Prelude.{◌≡◌, ℕ, ◌*◌, ◌≤◌, true, length}
 use Rattle.std.specs.Str.{is_utf8}
 use Rattle.values.specs.Limits.{max_name_len, max_precision, max_fixed_width}

@@ -29,7 +29,7 @@ abbrev pub is_null : Datum → Bool
 is_null null = true
 is_null _ = false
 
--- how many values it is made of
+-- how many values a value consists of
 abbrev mutual
   pub datum_size : Datum → ℕ
   datum_size null = 1
@@ -44,7 +44,7 @@ abbrev mutual
   items_size no_items = 0
   items_size (item d es) = datum_size d + items_size es
 
--- The code of a value is that of a tree, each of whose nodes says a kind and what a value of it holds.
+-- The code of a value is that of a tree, each of whose nodes has a kind and what a value of it holds.
 
 abbrev pub Head : Type 0
 Head = ℕ × (Bool × (ℤ × List ℕ))

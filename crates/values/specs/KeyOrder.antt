@@ -7,7 +7,7 @@ use Rattle.values.specs.declared.key.Key.{Key}
 use Rattle.values.specs.contracts.key.KeyPartialEq.TheImpl as equality
 use Rattle.values.specs.contracts.key.KeyOrd.TheImpl as order
 
--- `==` on keys says that they are the same
+-- `==` on keys is true where they are the same
 abbrev pub KeysAreExact : Type 0
 KeysAreExact = (a b : Key) → Decides (equality.ghosts.eq a b) (a ≡ b)
 

@@ -59,7 +59,7 @@ abbrev pub offset_bytes : OffsetWidth → ℕ
 offset_bytes offset.Bits32 = 4
 offset_bytes offset.Bits64 = 8
 
--- what an offset of 32 bits is below
+-- an upper bound of offsets of 32 bits
 abbrev pub offset_bound : ℕ
 offset_bound = 2 ^ 31
 
@@ -83,7 +83,7 @@ abbrev mutual
   AreLayouts none = Unit {0}
   AreLayouts (more t ts) = IsLayout t × AreLayouts ts
 
--- a number that n bytes hold, with a sign or without
+-- a number that fits into n bytes, with a sign or without
 abbrev pub FitsIn : Bool → ℕ → ℤ → Type 0
 FitsIn true n z = (neg_ℤ (pos (2 ^ (8 * n - 1))) ≤ℤ z) × (z <ℤ pos (2 ^ (8 * n - 1)))
 FitsIn false n z = (pos 0 ≤ℤ z) × (z <ℤ pos (2 ^ (8 * n)))
@@ -144,7 +144,7 @@ abbrev mutual
   HoldsAll (more t ts) no_items = Unit {0}
   HoldsAll (more t ts) (item d es) = Holds t d × HoldsAll (more t ts) es
 
-  -- one value a child
+  -- one value for each child
   pub HoldsEach : Roses Layout → Items → Type 0
   HoldsEach none no_items = Unit {0}
   HoldsEach none (item d es) = ⊥

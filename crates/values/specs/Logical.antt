@@ -98,7 +98,7 @@ AreLogicalColumns fs = AreLogical col.Struct (kids_of fs)
 pub AreLogicalColumns-prop : (fs : List (Rose NamedType)) → IsProp (AreLogicalColumns fs)
 AreLogicalColumns-prop fs = AreLogical-prop col.Struct (kids_of fs)
 
--- how the values lie in memory
+-- the layouts of the values
 abbrev mutual
   pub tree_of : Rose NamedType → Rose Layout
   tree_of (node f kids) = node (layout_of f.col_type) (trees_of kids)

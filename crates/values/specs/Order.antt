@@ -6,7 +6,7 @@ use Rattle.std.specs.Ordering.{int_cmp, nat_cmp}
 use Rattle.std.specs.Cmp.Lexicographic.{slice_cmp}
 use Rattle.values.specs.Datum.{Datum, null, truth, whole, text, bytes, list, structure}
 
--- A column holds values of one kind. Two kinds stand in this order, so that any two values have one.
+-- A column holds values of one kind. Two kinds are in this order, so that any two values are ordered.
 abbrev pub kind_of : Datum → ℕ
 kind_of (truth b) = 0
 kind_of (whole n) = 1

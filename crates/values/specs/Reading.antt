@@ -1,5 +1,5 @@
--- What bytes mean where some of them may be at fault: a value, or a set of faults that isn't empty.
--- A definition of this form says at once which value is read, and which faults stand.
+-- What bytes mean, which may be invalid: a value, or a set of faults that isn't empty. A definition of this form says
+-- at once which value is read, and which faults are found.
 use Rattle.std.specs.Prelude.{
   ◌≡◌,
   ◌⊎◌,
@@ -44,12 +44,12 @@ Faults = FaultsOf StreamFault
 abbrev pub Reading : Type 0 → Type 0
 Reading X = ReadingOf StreamFault X
 
--- What depends on something unreadable isn't read: nothing stands there.
+-- What depends on something unreadable isn't read: it adds no fault.
 abbrev pub ◌>>=◌ : {F X Y : Type 0} → ReadingOf F X → (X → ReadingOf F Y) → ReadingOf F Y
 Ok x >>= f = f x
 Err fs >>= f = Err fs
 
--- Two things that are read each by itself: the faults of both stand.
+-- Two things that are read each by itself: the faults are those of both.
 abbrev pub both : {F X Y Z : Type 0} → (X → Y → Z) → ReadingOf F X → ReadingOf F Y → ReadingOf F Z
 both join (Ok x) (Ok y) = Ok (join x y)
 both join (Ok x) (Err gs) = Err gs
@@ -79,7 +79,7 @@ cons x xs = x ∷ xs
 abbrev pub append_to : {X : Type 0} → List X → List X → List X
 append_to xs ys = xs ++ ys
 
--- what a change of the value makes of a reading
+-- a reading whose value is changed by a function
 abbrev pub mapped : {F X Y : Type 0} → (X → Y) → ReadingOf F X → ReadingOf F Y
 mapped f (Ok x) = Ok (f x)
 mapped f (Err fs) = Err fs
@@ -89,38 +89,38 @@ unfoldable pub each : {F X : Type 0} → (ℕ → ReadingOf F X) → ℕ → ℕ
 each f i zero = Ok []
 each f i (suc n) = both cons (f i) (each f (i + 1) n)
 
--- this fault stands
+-- this is one of the faults
 abbrev pub FailsWith : {F X : Type 0} → ReadingOf F X → F → Type 0
 FailsWith (Ok x) c = ⊥
 FailsWith (Err fs) c = IsAmong fs c
 
--- no fault stands
+-- there is no fault
 abbrev pub IsValid : {F X : Type 0} → ReadingOf F X → Type 0
 IsValid (Ok x) = Unit {0}
 IsValid (Err fs) = ⊥
 
--- A refusal is right: the fault stands, or memory ran out.
+-- A refusal is right: it names one of the faults, or memory was refused.
 abbrev pub Fails : {X : Type 0} → StreamFault → Reading X → Type 0
 Fails fault.Memory m = Unit {0}
 Fails c m = FailsWith m c
 
--- What a call answers that reads without taking memory: `Ok` exactly where no fault stands, and then the value
--- as contracts see it; otherwise a fault that stands.
+-- What a call answers that reads without taking memory: `Ok` exactly where there is no fault, and then the value as
+-- contracts see it; otherwise one of the faults.
 abbrev pub Yields : {F X Y : Type 0} → (X → Y) → Result X F → ReadingOf F Y → Type 0
 Yields view (Ok x) m = m ≡ Ok (view x)
 Yields view (Err c) m = FailsWith m c
 
--- the same of a call that takes memory, which may run out
+-- the same of a call that takes memory, which may be refused
 abbrev pub Answers : {X Y : Type 0} → (X → Y) → Result X StreamFault → Reading Y → Type 0
 Answers view (Ok x) m = m ≡ Ok (view x)
 Answers view (Err c) m = Fails c m
 
--- what a check answers that gives no value: `Ok` exactly where no fault stands
+-- what a check answers that gives no value: `Ok` exactly where there is no fault
 abbrev pub Passes : {F X : Type 0} → Result (Unit {0}) F → ReadingOf F X → Type 0
 Passes (Ok u) m = IsValid m
 Passes (Err c) m = FailsWith m c
 
--- What is left to read decides the whole: the invariant of a loop that checks one thing after another.
+-- What remains to be read decides the whole: the invariant of a loop that checks one thing after another.
 pub record Decides {F X Y : Type 0} (rest : ReadingOf F X) (whole : ReadingOf F Y) : Type 0 where
   pub valid : IsValid rest → IsValid whole
   pub fault : (c : F) → FailsWith rest c → FailsWith whole c

@@ -12,7 +12,7 @@ mutual
     none : Roses A
     more : Rose A → Roses A → Roses A
 
--- the children that a list of trees are
+-- the children that a list of trees gives
 abbrev pub kids_of : {A : Type 0} → List (Rose A) → Roses A
 kids_of [] = none
 kids_of (t ∷ ts) = more t (kids_of ts)
@@ -41,7 +41,7 @@ abbrev mutual
   roses_depth (more t ts) = max (rose_depth t) (roses_depth ts)
 
 -- The code of a tree is its first node and then, for the children in preorder, `Some` of each node and `None` where a
--- list of children ends. It is read from its end, on a stack of the lists that were read.
+-- list of children ends. It is read from its end, with a stack of the lists that were read.
 abbrev mutual
   pub steps_of : {A : Type 0} → Rose A → List (Option A) → List (Option A)
   steps_of (node a kids) ps = Some a ∷ steps_of_all kids ps

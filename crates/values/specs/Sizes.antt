@@ -1,4 +1,4 @@
--- The size of a value bounds its depth, by which copying it ends.
+-- The size of a value bounds its depth, by which copying it terminates.
 use Rattle.std.specs.Prelude.{◌≤◌}
 use Rattle.std.proofs.Common.{arith}
 use Rattle.values.specs.Datum.{datum_size, most_le-items_size}

@@ -1,4 +1,4 @@
--- What `==` on types says.
+-- The meaning of `==` on types.
 use Rattle.std.specs.Prelude.{◌≡◌}
 use Rattle.std.specs.Bool.{Decides}
 use Rattle.values.specs.declared.col_type.ColType.{ColType}

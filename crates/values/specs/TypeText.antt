@@ -30,7 +30,7 @@ abbrev pub date_text : DateUnit → List ℕ
 date_text date.Day = codes "date32"
 date_text date.Millisecond = codes "date64"
 
--- a zone stands after the unit
+-- a zone comes after the unit
 abbrev pub comma_text : List ℕ → List ℕ
 comma_text [] = []
 comma_text (b ∷ bs) = codes ", "

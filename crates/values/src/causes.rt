@@ -109,7 +109,7 @@ pub enum Cause {
     #[error("the input ends within a message")]
     Truncated = 30,
 
-    // 41 to 45: an edit doesn't fit its table, or a table is above its limits.
+    // 41 to 45: an edit doesn't fit its table, or a table would exceed its limits.
     /// a key is null.
     #[error("a key is null")]
     NullKey = 41,

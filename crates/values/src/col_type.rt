@@ -8,10 +8,10 @@ use crate::units::{DateUnit, TimeUnit};
 use crate::zone::Zone;
 use std::alloc::{AllocError, Global};
 
-/// The type of a column, or of a part of one: Schema.fbs, union `Type`. Types that the union has and this enum hasn't
-/// are not taken.
+/// The type of a column, or of a part of one: Schema.fbs, union `Type`. Types that the union has and this enum lacks
+/// are not supported.
 ///
-/// It has the width of stored offsets too: Utf8 and LargeUtf8 are one variant. A logical type has offsets of 32 bits,
+/// It includes the width of stored offsets: Utf8 and LargeUtf8 are one variant. A logical type has offsets of 32 bits,
 /// whatever its values are stored with.
 #[derive(Debug, Drop, PartialEq, Eq)]
 pub enum ColType {
@@ -29,7 +29,7 @@ pub enum ColType {
     Duration { unit: TimeUnit },
     Utf8 { offsets: OffsetWidth },
     Binary { offsets: OffsetWidth },
-    /// `width` bytes a value.
+    /// `width` bytes for each value.
     FixedSizeBinary { width: u32 },
     /// With one child.
     List { offsets: OffsetWidth },
@@ -44,7 +44,7 @@ fn number(width: IntWidth, signed: bool) -> Layout
 }
 
 impl ColType {
-    /// How the slots of an array of this type lie in memory.
+    /// The layout of an array of this type.
     pub fn layout(&self) -> Layout
         ensures { result ≡ layout_of self.now }
     {

@@ -35,7 +35,7 @@ impl KeyBuffer {
     }
 }
 
-/// Makes a key that of a cell, in the memory that it has where that is enough, and returns whether the cell has a key.
+/// Makes a key that of a cell, in its own memory where that is enough, and returns whether the cell has a key.
 fn refill(alloc: Global, key: &mut Key, cell: CellView<'_>) -> Result<bool, AllocError>
     ensures { IfOk result (λ has. (if has then Some key.new else None) ≡ key_of (viewed cell.entry)) }
 {

@@ -35,7 +35,7 @@ impl KeyText {
         })
     }
 
-    /// Takes another text, in the memory that is there where it is large enough.
+    /// Stores another text, in the memory that is there where it is large enough.
     pub(crate) fn refill(&mut self, alloc: Global, text: &str) -> Result<(), AllocError>
         ensures { OnOk result (self.new ≡ text.now) }
     {
@@ -155,7 +155,7 @@ impl KeyBytes {
         })
     }
 
-    /// Takes other bytes, in the memory that is there where it is large enough.
+    /// Stores other bytes, in the memory that is there where it is large enough.
     pub(crate) fn refill(&mut self, alloc: Global, bytes: &[u8]) -> Result<(), AllocError>
         ensures { OnOk result (self.new ≡ bytes.now) }
     {

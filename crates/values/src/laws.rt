@@ -28,14 +28,14 @@ use crate::limits::{
     MAX_NAME_LEN, MAX_NODE_LENGTH, MAX_NULL_WEIGHT, MAX_PRECISION, MAX_ROW_WEIGHT,
 };
 
-/// Keys are equal exactly where they are the same value, and stand in the order of values.
+/// Keys are equal exactly where they are the same value, and are ordered as values are.
 #[tactic(auto, using(crate::proofs::KeyLaws::key_laws))]
 pub fn key_law()
     ensures equal { KeysAreExact }
     ensures ordered { KeysAreOrdered }
 {}
 
-/// `==` on types of columns, and on what they are made of, answers true exactly where both are the same.
+/// `==` on types of columns, and on their parts, is true exactly where both are the same.
 #[tactic(auto, using(crate::proofs::Equality::type_equality))]
 pub fn equality_law()
     ensures { TypesAreExact }

@@ -1,4 +1,4 @@
-//! How the values of a type lie in memory: Arrow Columnar Format, "Physical Memory Layout".
+//! The layouts of types: Arrow Columnar Format, "Physical Memory Layout".
 
 ghost use Rattle.std.specs.Prelude.{◌≡◌, ◌*◌, ◌≤◌, ◌^◌};
 ghost use Rattle.values.specs.Rose.{node, none};
@@ -90,13 +90,14 @@ impl OffsetWidth {
 /// How an array's own buffers hold its slots.
 #[derive(Clone, Copy, Debug, PartialEq, Eq)]
 pub enum Layout {
-    /// One bit a slot.
+    /// One bit for each slot.
     Bool,
-    /// An integer a slot, in two's complement if signed. Dates, times, timestamps and durations are such integers too.
+    /// An integer for each slot, in two's complement if signed. Dates, times, timestamps and durations are such
+    /// integers too.
     Int { width: IntWidth, signed: bool },
-    /// A number of 128 bits a slot, with at most as many decimal digits as `precision`.
+    /// A number of 128 bits for each slot, with at most as many decimal digits as `precision`.
     Decimal { precision: u8 },
-    /// `width` bytes a slot (FixedSizeBinary).
+    /// `width` bytes for each slot (FixedSizeBinary).
     FixedSizeBinary { width: u32 },
     /// Offsets into texts.
     Utf8 { offsets: OffsetWidth },
@@ -104,7 +105,7 @@ pub enum Layout {
     Binary { offsets: OffsetWidth },
     /// Offsets into the slots of the one child.
     List { offsets: OffsetWidth },
-    /// Nothing of its own: slot i is made of the children's slots i.
+    /// No buffers but validity: slot i has the children's slots i.
     Struct,
 }
 

@@ -1,11 +1,11 @@
-//! What all layers speak of: the types of columns, values with their order, how they lie in memory and what they weigh,
-//! the limits, and the causes of a refusal.
+//! The vocabulary of all layers: the types of columns, values with their order, their layouts and weights, the limits,
+//! and the causes of a refusal.
 //!
-//! The contracts are equations on definitions of `specs/`: `ColTypes` (the types, and how each lies in memory),
-//! `TypeText` (how a type is printed), `Logical` (a schema as contracts see it), `Datum` (a value as contracts see it),
-//! `Order`, `Layouts` (what a layout holds, and what it weighs), `Causes`, `Limits`. `Reading` defines what it is that
-//! bytes mean a value or are at fault, and `Rose` the tree with any number of children as which contracts
-//! see fields, layouts and arrays; the crates above use both.
+//! The contracts are equations on definitions of `specs/`: `ColTypes` (the types, and the layout of each), `TypeText`
+//! (how a type is printed), `Logical` (a schema as contracts see it), `Datum` (a value as contracts see it), `Order`,
+//! `Layouts` (what a layout holds, and what it weighs), `Causes`, `Limits`. `Reading` defines readings, in which bytes
+//! mean a value or have faults, and `Rose` the tree with any number of children as which contracts see fields, layouts
+//! and arrays; the crates above use both.
 #![tactic(auto)]
 
 mod causes;

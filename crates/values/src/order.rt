@@ -8,11 +8,11 @@ use crate::cell_view::CellView;
 use crate::cells::Value;
 use std::cmp::Ordering;
 
-/// False before true, numbers by value, texts and bytes by their bytes (a beginning stands before its continuation),
-/// nulls last.
+/// False before true, numbers by value, texts and bytes by their bytes (a prefix comes before its continuation), nulls
+/// last.
 ///
-/// Values of one column are of one kind or null. Two kinds stand in the order of their variants in `Kind`, nulls last,
-/// so that the order is total. Lists have no order among themselves, and structs have none: they are answered as equal.
+/// Values of one column are of one kind or null. Two kinds are in the order of their variants in `Kind`, nulls last, so
+/// that the order is total. Lists have no order among themselves, and structs have none: they compare as equal.
 #[tactic(auto, using(crate::proofs::ShallowLemmas::shallow_laws))]
 pub fn cmp_values(a: &Value, b: &Value) -> Ordering
     ensures { result ≡ datum_cmp a.now b.now }
@@ -33,7 +33,7 @@ pub fn cmp_cells(a: CellView<'_>, b: CellView<'_>) -> Ordering
     }
 }
 
-/// The place of a cell's kind among the kinds.
+/// The position of a cell's kind among the kinds.
 fn rank(cell: CellView<'_>) -> u8
     ensures { result ≡ kind_of (viewed cell.entry) }
 {

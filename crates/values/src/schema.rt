@@ -46,7 +46,7 @@ impl Model for LogicalField {
 }
 
 /// The columns of a table, in order: their names and logical types. Offsets have 32 bits, and the items of a list are
-/// named `item`; no value of this type says anything else of how columns are stored.
+/// named `item`; no value of this type has anything else of how columns are stored.
 #[derive(Debug, Drop)]
 pub struct Schema {
     pub fields: Vec<LogicalField>,
@@ -54,8 +54,7 @@ pub struct Schema {
 }
 
 impl Schema {
-    /// The schema of these columns, whatever they say of how they are stored: offsets are narrowed, and the items of
-    /// lists renamed.
+    /// The schema of these columns, however they are stored: offsets are narrowed, and the items of lists renamed.
     pub fn new(alloc: Global, fields: Vec<LogicalField>) -> Result<Schema, AllocError>
         ensures { IfOk result (λ s. s.fields.items ≡ map logical_column fields.items) }
     {

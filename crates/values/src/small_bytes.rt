@@ -1,4 +1,4 @@
-//! Bytes that lie in their place where they are few.
+//! Bytes that are stored inline where they are few.
 
 ghost use Rattle.std.specs.Cmp.Lexicographic.{slice_cmp};
 ghost use Rattle.std.specs.Ordering.{nat_cmp};
@@ -10,18 +10,18 @@ use std::cmp::Ordering;
 use std::marker::Model;
 use std::mem;
 
-/// How many bytes lie in their place, without memory of their own.
+/// How many bytes are stored inline, without memory of their own.
 const INLINE: usize = 22;
 
-/// How many of more bytes lie beside the pointer to all of them.
+/// How many of the first bytes of more are stored beside the pointer to all of them.
 const HEAD: usize = 15;
 
-/// Where bytes lie. Both kinds are as large as a `Vec`.
+/// Where bytes are stored. Both variants are as large as a `Vec`.
 #[derive(Debug, Drop)]
 enum Room {
-    /// The first so many of these; the others are zeros.
+    /// The first of these, as many as the number says; the others are zeros.
     Inline(u8, [u8; INLINE]),
-    /// More than that, and the first of them once more, so that a comparison can do without the pointer.
+    /// More bytes than that, and the first of them once more, so that a comparison can do without the pointer.
     Heap([u8; HEAD], Box<Vec<u8>>),
 }
 
@@ -52,7 +52,7 @@ fn head(bytes: &[u8]) -> [u8; HEAD]
     head
 }
 
-/// Few bytes in their place.
+/// Few bytes, stored inline.
 fn inline(bytes: &[u8]) -> SmallBytes
     requires { length bytes.now ≤ INLINE }
     ensures { result ≡ bytes.now }
@@ -86,7 +86,7 @@ fn word_of_six(bytes: &[u8]) -> u64
     ])
 }
 
-/// The order of so many bytes, compared eight at a time.
+/// The order of these bytes, compared eight at a time.
 #[inline(always)]
 fn cmp_by_words(bytes: &[u8; INLINE], other: &[u8; INLINE]) -> Ordering
     ensures { result ≡ slice_cmp nat_cmp bytes.now other.now }
@@ -102,7 +102,7 @@ fn cmp_by_words(bytes: &[u8; INLINE], other: &[u8; INLINE]) -> Ordering
     word_of_six(&bytes[16..]).cmp(&word_of_six(&other[16..]))
 }
 
-/// The order of bytes that lie in their places: by all that lies there, which ends in zeros, and then by their lengths.
+/// The order of bytes that are stored inline: by the whole arrays, which end in zeros, and then by their lengths.
 #[inline(always)]
 fn cmp_inline(len: u8, bytes: &[u8; INLINE], other_len: u8, other: &[u8; INLINE]) -> Ordering
     requires bytes { IsInline len bytes.now }
@@ -136,7 +136,7 @@ impl SmallBytes {
         }
     }
 
-    /// Takes other bytes, in the memory that is there where it is large enough.
+    /// Stores other bytes, in the memory that is there where it is large enough.
     pub(crate) fn refill(&mut self, alloc: Global, bytes: &[u8]) -> Result<(), AllocError>
         ensures ok { OnOk result (self.new ≡ bytes.now) }
         ensures err { OnErr result (self.new ≡ []) }
@@ -152,7 +152,7 @@ impl SmallBytes {
         Ok(())
     }
 
-    /// The order of bytes that both lie in their places, or of many whose first bytes differ: no pointer is followed.
+    /// The order of bytes that are both stored inline, or of many whose first bytes differ: no pointer is followed.
     #[inline(always)]
     pub(crate) fn cmp_in_place(&self, other: &SmallBytes) -> Option<Ordering>
         ensures { IfSome result (λ order. order ≡ slice_cmp nat_cmp self.now other.now) }

@@ -226,7 +226,7 @@ fn finds_keys_of_cells_where_they_lie(rt: HostRuntime) -> Result<(), Fail> {
     Ok(())
 }
 
-/// Texts of 22 bytes, which lie in their place, and of more, which lie behind a pointer and differ at the first byte, at
+/// Texts of 22 bytes, which are stored inline, and of more, which are behind a pointer and differ at the first byte, at
 /// the sixteenth or in their length.
 const TEXTS: [&str; 7] = [
     "",

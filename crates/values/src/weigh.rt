@@ -23,8 +23,8 @@ fn add(weight: u64, more: u64) -> u64
     weight.saturating_add(more)
 }
 
-/// The weight of a null of this layout: 1, and what a slot takes in its buffers, a bit counted as 1 and an offset as 4;
-/// of a struct 1, and its children's slots.
+/// The weight of a null of this layout: 1, and the size of a slot in its buffers, a bit counted as 1 and an offset as
+/// 4; of a struct 1, and its children's slots.
 #[cycle(null_weight)]
 pub fn null_weight(layout: &LayoutTree) -> u64
     ensures { result ≡ saturated (null_weight_by layout.now) }
@@ -154,7 +154,7 @@ fn weigh_struct(children: &[LayoutTree], value: &Value) -> u64
     }
 }
 
-/// What a row's cells weigh together, each of its column's layout.
+/// The summed weight of a row's cells, each of its column's layout.
 #[cycle(weigh)]
 #[tactic(auto, using(crate::proofs::WeightLemmas::row_sums))]
 pub fn row_weight(layouts: &[LayoutTree], row: &[Value]) -> u64

@@ -1,4 +1,4 @@
--- What a view of groups shows, by its word and the columns behind it.
+-- What a view of groups shows, by its word and the columns after it.
 use Rattle.std.specs.Prelude.{codes, ℕ, ◌==◌, nat_le, Bool, true, false, Ok, Err, List, if◌then◌else◌}
 use Rattle.std.specs.Str.{bytes_eq}
 use Rattle.toml.specs.Data.{Items}
@@ -21,7 +21,7 @@ sole_reference s ds = must fault.Shape (sole ds) >>= reference s
 abbrev pub sole_ordered : Scope → Items → Reading Column
 sole_ordered s ds = must fault.Shape (sole ds) >>= ordered_reference s
 
--- of the columns those that rows are grouped by
+-- a grouping column as an output, by its index among the grouping columns; the number must be that of one
 abbrev pub key_of_group : List ℕ → ℕ → Reading Aggregate
 key_of_group by n = mapped aggregate.Key (must fault.UnknownName (place_of 0 n by))
 

@@ -20,7 +20,7 @@ use Rattle.view_config.specs.Reading.{Reading}
 use Rattle.view_config.specs.Tree.{each_item, sole, pair, pair_in, headed}
 use Rattle.view_config.specs.declared.faults.ConfigFault.TheVariants as fault
 
--- what stands under a word
+-- the value of a word in a table
 abbrev pub look_up : {X : Type 0} → List ℕ → List (List ℕ × X) → Option X
 look_up w [] = None
 look_up w (p ∷ ps) = if bytes_eq w p.0 then Some p.1 else look_up w ps

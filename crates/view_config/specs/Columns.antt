@@ -34,7 +34,7 @@ find i name (c ∷ cs) = if bytes_eq (name_of c) name then Some (i, c) else find
 abbrev pub ordered : ℕ × Rose NamedType → Reading (ℕ × Rose NamedType)
 ordered f = if has_order (type_of f.1) then Ok f else Err (one fault.OrderType)
 
--- the place of this name among names, of which the first has place i
+-- the index of this name among names, of which the first has index i
 abbrev pub find_name : ℕ → List ℕ → List (List ℕ) → Option ℕ
 find_name i name [] = None
 find_name i name (n ∷ ns) = if bytes_eq n name then Some i else find_name (i + 1) name ns

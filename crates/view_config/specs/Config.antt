@@ -1,4 +1,4 @@
--- The configuration that a TOML document means, and the causes that stand where it means none.
+-- The configuration that a TOML document means, and the causes for which it means none.
 use Rattle.std.specs.Prelude.{codes, ℕ, List, [], ◌∷◌}
 use Rattle.toml.specs.Data.{Members}
 use Rattle.toml.specs.Parse.{parse_document}

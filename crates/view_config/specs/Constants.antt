@@ -44,11 +44,11 @@ abbrev pub some_digits : List ℕ → Option ℕ
 some_digits [] = None
 some_digits (c ∷ cs) = digits_after 0 (c ∷ cs)
 
--- what 128 bits hold of a number: of one that is too large the greatest that they can hold
+-- the part of a number that fits into 128 bits: of one that is too large the greatest that does
 abbrev pub held : Option ℕ → Option ℕ
 held o = option_map (λ n. min n (2 ^ 128 - 1)) o
 
--- the number of the digits on both sides of a point at this place
+-- the number of the digits on both sides of a point at this index
 unfoldable pub pointed : ℕ → List ℕ → Option ℕ
 pointed point cs =
     if get_or cs point 0 == 46 then and_then (some_digits (take point cs)) (λ m. digits_after m (drop (point + 1) cs))

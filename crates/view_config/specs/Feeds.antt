@@ -13,7 +13,7 @@ use Rattle.view_lang.specs.declared.config.Role.{Role}
 use Rattle.view_lang.specs.declared.config.Role.TheVariants as role
 use Rattle.view_config.specs.declared.faults.ConfigFault.TheVariants as fault
 
--- A feed of rows of the main table names no side table.
+-- A feed for rows of the main table names no side table.
 abbrev pub sideless : Role → Members → Reading Role
 sideless r ms = only (codes "role" ∷ []) ms >>= λ _. Ok r
 

@@ -81,7 +81,7 @@ unfoldable pub filter_of : ℕ → Scope → Data → Reading Filter
 filter_of zero s d = Err (one fault.OverLimit)
 filter_of (suc depth) s d = filter_with s (filter_of depth s) d
 
--- A filter is made of at most 256 filters, itself among them.
+-- A filter consists of at most 256 filters, itself among them.
 unfoldable pub whole_filter : Scope → Data → Reading Filter
 whole_filter s d = do
   f ← filter_of max_filter_depth s d

@@ -1,4 +1,4 @@
--- The limits of columns: of their names, of how many fields they have at all levels, and of what their slots weigh.
+-- The limits of columns: of their names, of how many fields they have at all levels, and of their null weights.
 use Rattle.std.specs.Prelude.{◌≡◌, ℕ, ◌+◌, ◌<◌, ◌^◌, nat_le, nat_lt, not, ◌&&◌, Bool, true, false, MatchOption, Option}
 use Rattle.std.specs.Prelude.{Ok, Err, List, length, if◌then◌else◌, map}
 use Rattle.values.specs.Limits.{max_fields, max_null_weight}
@@ -20,7 +20,7 @@ max_zone_len = 255
 abbrev pub max_entry_name_len : ℕ
 max_entry_name_len = 64
 
--- filters that a filter is made of, and levels of them
+-- filters of which a filter consists, and levels of them
 abbrev pub max_filter_parts : ℕ
 max_filter_parts = 256
 
@@ -44,7 +44,7 @@ distinct names = refused_if fault.DuplicateColumn (repeats names)
 abbrev pub few_fields : List (Rose NamedType) → Reading (Unit {0})
 few_fields cs = refused_if fault.OverLimit (nat_lt max_fields (roses_size (kids_of cs)))
 
--- A slot weighs at most 2^20, at each level.
+-- A null weighs at most 2^20, at each level.
 abbrev mutual
   pub null_weight_fits : Rose Layout → Bool
   null_weight_fits (node l kids) = nat_le (null_weight (node l kids)) max_null_weight && null_weights_fit kids
@@ -64,11 +64,11 @@ column_limits cs = do
 abbrev pub size_of : List (Rose NamedType) → ℕ
 size_of fields = roses_size (kids_of fields)
 
--- what is left of a room for things after n of them; none where they are more
+-- the rest of a room for things after n of them; none where they are more
 abbrev pub IsRoomAfter : ℕ → ℕ → Option ℕ → Type 0
 IsRoomAfter room n left = MatchOption left (room < n) (λ m. m + n ≡ room)
 
--- the slot of a layout, and those of layouts summed; none where one at some level is above the limit
+-- the null weight of a layout, and those of layouts summed; none where one at some level is above the limit
 abbrev pub IsSlotOf : Option ℕ → Rose Layout → Type 0
 IsSlotOf o t = MatchOption o (null_weight_fits t ≡ false) (λ n. (null_weight_fits t ≡ true) × (n ≡ null_weight t))
 

@@ -61,7 +61,7 @@ group_output_of s by d = do
   name ← column_name out.0
   mapped (group_output_named name) (aggregate_by s by word.0 word.1)
 
--- All groups are shown, if nothing is said of which.
+-- All groups are shown, unless it is said which.
 abbrev pub all_groups : List ℕ → List GroupOutput → Outputs
 all_groups by outputs = groups by outputs None
 

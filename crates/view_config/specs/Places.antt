@@ -1,4 +1,4 @@
--- What came of reading a part of a configuration: the part, or none where a fault stands in it.
+-- The result of reading a part of a configuration: the part, or none where it has a fault.
 use Rattle.std.specs.Prelude.{◌≡◌, Option, None, Some, Result, Ok, Err}
 use Rattle.view_config.specs.declared.faults.ConfigFault.{ConfigFault}
 use Rattle.view_config.specs.declared.faults.ConfigFault.TheVariants as fault

@@ -42,7 +42,7 @@ abbrev pub is_one_of : List (List ℕ) → List ℕ → Bool
 is_one_of [] name = false
 is_one_of (n ∷ ns) name = bytes_eq name n || is_one_of ns name
 
--- a text stands twice
+-- a text is there twice
 abbrev pub repeats : List (List ℕ) → Bool
 repeats [] = false
 repeats (n ∷ ns) = is_one_of ns n || repeats ns

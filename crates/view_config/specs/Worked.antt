@@ -38,7 +38,7 @@ abbrev lines : List (List ℕ) → List ℕ
 lines [] = []
 lines (l ∷ ls) = l ++ (codes "\n" ++ lines ls)
 
--- Amounts in groups, to which rows are added and from which they are taken away, and a view of all of them.
+-- Amounts in groups, to which rows are added and from which they are removed, and a view of all of them.
 abbrev pub amounts_text : List ℕ
 amounts_text = lines (
     codes "[main]"
@@ -82,7 +82,7 @@ pairs =
     (feed_named (codes "add") role.Append ∷ [])
     (plain (codes "t") (output_named (codes "k") 0 ∷ output_named (codes "v") 1 ∷ []) ∷ [])
 
--- Amounts in groups, of which each is in a zone: a lookup, groups, an order, a view of one row. Entries stand in the
+-- Amounts in groups, of which each is in a zone: a lookup, groups, an order, a view of one row. Entries are in the
 -- order of their names.
 abbrev pub zones_text : List ℕ
 zones_text = lines (

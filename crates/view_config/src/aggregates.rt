@@ -30,7 +30,7 @@ use toml::Value;
 use values::{ColType, LogicalField};
 use view_lang::Aggregate;
 
-/// The place of a number among others.
+/// The index of a number among others.
 #[tactic(auto, using(crate::proofs::Numbers::numbering))]
 fn place_of(number: usize, numbers: &[usize]) -> Option<usize>
     ensures { result ≡ place_of 0 number numbers.now }
@@ -87,7 +87,7 @@ fn count_by(scope: &Scope, values: &[Value]) -> Result<Aggregate, ConfigFault>
     Ok(Aggregate::CountOf(number))
 }
 
-/// Whether columns of a type can be summed. The clause `rule` ties it to the rules of `view_lang`.
+/// Whether columns of a type can be summed. The clause `rule` relates it to the rules of `view_lang`.
 fn can_be_summed(col_type: &ColType) -> bool
     ensures value { result ≡ can_be_summed col_type.now }
     ensures rule { Decides result (IsAddable col_type.now) }
@@ -142,7 +142,7 @@ pub(crate) fn aggregate_by(
     }
 }
 
-/// The number of the grouping column at this place.
+/// The number of the grouping column at this index.
 fn grouped_at(by: &[usize], place: usize) -> usize
     ensures { result ≡ get_or by.now place 0 }
 {

@@ -10,8 +10,8 @@ ghost use Rattle.view_config.specs.Tree.{is_one_of, repeats};
 use crate::faults::ConfigFault;
 use values::{ColType, LogicalField, OffsetWidth};
 
-/// Whether the values of a type have an order: all but lists and structs do. The clause `rule` ties it to the rules of
-/// `view_lang`.
+/// Whether the values of a type have an order: all but lists and structs do. The clause `rule` relates it to the rules
+/// of `view_lang`.
 pub(crate) fn has_order(col_type: &ColType) -> bool
     ensures value { result ≡ has_order col_type.now }
     ensures rule { Decides result (IsSingle col_type.now) }

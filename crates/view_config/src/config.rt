@@ -23,8 +23,8 @@ pub(crate) const SECTIONS: &[&str] = &["main", "side", "feed", "view"];
 
 /// Reads a configuration from TOML.
 ///
-/// The error is a fault that stands in the text, any one where there are several, or `Memory`. A text without a fault
-/// is refused only for want of memory.
+/// The error is a fault of the text, any one where there are several, or `Memory`. A text without a fault is refused
+/// only for want of memory.
 #[tactic(auto, using(crate::proofs::SoundConfig::whole), unfolding(crate::specs::Config::text_means))]
 pub fn read_config(alloc: Global, text: &str) -> Result<Config, ConfigFault>
     ensures meaning { Answers (λ c. c) result (text_means text.now) }
@@ -34,7 +34,7 @@ pub fn read_config(alloc: Global, text: &str) -> Result<Config, ConfigFault>
     read_entries(alloc, &tree)
 }
 
-/// Parses a TOML document. A text that is none is `NotToml`.
+/// Parses a TOML document. A text that isn't one is `NotToml`.
 fn read_tree(alloc: Global, text: &str) -> Result<Entries, ConfigFault>
     ensures { Answers table_view result (must ConfigFault.NotToml (parse_document text.now)) }
 {

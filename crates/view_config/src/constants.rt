@@ -79,7 +79,7 @@ fn some_digits(digits: &[u8]) -> Option<u128>
     digits_after(0, digits)
 }
 
-/// The number of the digits on both sides of the point at place `point`, read as if it weren't there.
+/// The number of the digits on both sides of the point at index `point`, which is skipped.
 #[tactic(auto, using(crate::proofs::Digits::numbers), unfolding(crate::specs::Constants::pointed))]
 fn pointed(point: usize, text: &[u8]) -> Option<u128>
     requires { point < length text.now }

@@ -22,7 +22,7 @@ use toml::Value;
 use values::LogicalField;
 use view_lang::{Outputs, output_fields};
 
-/// The place of the output of this name; `DictType` where its values aren't texts.
+/// The position of the output of this name; `DictType` where its values aren't texts.
 #[tactic(auto, using(crate::proofs::Causes::causes), unfolding(crate::specs::Dict::coded_output))]
 fn coded_output(shown: &[LogicalField], value: &Value) -> Result<usize, ConfigFault>
     ensures { Yields (λ n. n) result (coded_output shown.now (view value.now)) }
@@ -78,7 +78,7 @@ fn read_dict(
     Ok(ascending(alloc, &places, shown.len())?)
 }
 
-/// Reads the outputs that are written with dictionaries, as their places: none where there is no such entry.
+/// Reads the outputs that are written with dictionaries, as their positions: none where there is no such entry.
 #[tactic(auto, using(crate::proofs::Causes::failing))]
 pub(crate) fn read_dict_at(
     alloc: Global,

@@ -4,7 +4,7 @@ use std::alloc::{AllocError, AllocFailed};
 use thiserror::Error;
 use values::Cause;
 
-/// Why a configuration is refused: a fault of its text, or want of memory. The cause of the same name says what each is.
+/// Why a configuration is refused: a fault of its text, or want of memory. The cause of the same name describes each.
 #[derive(Clone, Copy, Debug, PartialEq, Eq, Error)]
 #[error("{cause}", cause = Cause::from(*self))]
 pub enum ConfigFault {

@@ -216,7 +216,7 @@ fn read_each_part(
     Ok(parts)
 }
 
-/// `room` less the number of filters that a filter is made of, itself among them; `None` where they are more.
+/// `room` less the number of filters of which a filter consists, itself among them; `None` where they are more.
 #[cycle(room)]
 #[tactic(auto, using(crate::proofs::FilterCounts::counting))]
 fn room_after(filter: &Filter, room: u32) -> Option<u32>

@@ -39,7 +39,7 @@ fn repeats_number(numbers: &[usize]) -> bool
     false
 }
 
-/// Refuses a column that stands twice, as `DuplicateColumn`.
+/// Refuses a column that is there twice, as `DuplicateColumn`.
 pub(crate) fn check_distinct_numbers(numbers: &[usize]) -> Result<(), ConfigFault>
     ensures { Yields (λ u. u) result (distinct_numbers numbers.now) }
 {

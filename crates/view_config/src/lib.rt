@@ -2,10 +2,10 @@
 //! written of them.
 //!
 //! `read_config` is proved against one definition, `text_means` of `specs/Config.antt`: which configuration a text
-//! means, or which faults stand in it. There is a module of `specs/` for each part of a text: `Tree` and `Entries` (its
+//! means, or which faults it has. There is a module of `specs/` for each part of a text: `Tree` and `Entries` (its
 //! entries), `ColumnTypes`, `Limits`, `Tables`, `Sides`, `Feeds`, and of a view `Lookups`, `Scope` (the columns that it
-//! can name), `Constants`, `Filters`, `Outputs`, `Dict` and `Views`. `Reading` defines what a call answers where
-//! faults may stand, and `Worked` has texts whose meaning is computed.
+//! can name), `Constants`, `Filters`, `Outputs`, `Dict` and `Views`. `Reading` defines what a call answers where there
+//! may be faults, and `Worked` has texts whose meaning is computed.
 #![tactic(auto)]
 
 mod aggregates;

@@ -1,4 +1,4 @@
-//! The limits of columns: of their names, of how many fields they have at all levels, and of what their slots weigh.
+//! The limits of columns: of their names, of how many fields they have at all levels, and of their null weights.
 
 ghost use Rattle.std.specs.Prelude.{◌≤◌, ◌*◌, IfSome, map};
 ghost use Rattle.values.specs.Limits.{max_fields, max_null_weight};
@@ -21,7 +21,7 @@ pub(crate) const MAX_ZONE_LEN: usize = 255;
 /// The longest name of a side table, a feed or a view, in bytes.
 pub(crate) const MAX_ENTRY_NAME_LEN: usize = 64;
 
-/// The most filters that a filter may be made of, itself among them.
+/// The most filters of which a filter may consist, itself among them.
 pub(crate) const MAX_FILTER_PARTS: u32 = 256;
 
 /// The most levels of a filter.
@@ -30,7 +30,7 @@ pub(crate) const MAX_FILTER_DEPTH: u8 = 16;
 /// The most digits of a decimal that may be summed.
 pub(crate) const MAX_SUM_PRECISION: u8 = 28;
 
-/// The most rows that a view may be cut to.
+/// The greatest `first` of a view.
 pub(crate) const MAX_FIRST: i64 = 1 << 24;
 
 /// The name of a column, of an output or of a struct's child, or `OverLimit` where it doesn't have 1 to 255 bytes.

@@ -21,7 +21,7 @@ fn repeats(names: &[&str]) -> bool
     false
 }
 
-/// Refuses a name that stands twice, as `DuplicateColumn`.
+/// Refuses a name that is there twice, as `DuplicateColumn`.
 pub(crate) fn check_distinct_names(names: &[&str]) -> Result<(), ConfigFault>
     ensures { Yields (λ u. u) result (distinct (map (λ n. n.now) names.now)) }
 {
@@ -31,7 +31,7 @@ pub(crate) fn check_distinct_names(names: &[&str]) -> Result<(), ConfigFault>
     Ok(())
 }
 
-/// The place of a name among others.
+/// The index of a name among others.
 #[tactic(auto, using(crate::proofs::Names::finding_names))]
 pub(crate) fn find_name(names: &[&str], name: &str) -> Option<usize>
     ensures { result ≡ find_name 0 name.now (map (λ n. n.now) names.now) }

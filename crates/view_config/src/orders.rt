@@ -35,7 +35,7 @@ fn direction_by(word: &str) -> Option<Direction>
     }
 }
 
-/// The place of the output of this name among the outputs; `OrderType` where its values have no order.
+/// The position of the output of this name among the outputs; `OrderType` where its values have no order.
 #[tactic(auto, using(crate::proofs::OutputNames::naming_outputs))]
 fn sorting_column(
     scope: &Scope,
@@ -150,7 +150,7 @@ fn first_of(value: &Value) -> Result<usize, ConfigFault>
     }
 }
 
-/// Reads how many rows a view shows at most, if it says so.
+/// Reads how many rows a view shows at most, if that is given.
 #[tactic(auto, using(crate::proofs::Causes::causes))]
 pub(crate) fn read_first(value: Option<&Value>) -> Result<Option<usize>, ConfigFault>
     ensures { Yields (λ n. n) result (perhaps first_of (data_of value.entry)) }

@@ -1,4 +1,4 @@
-//! Where a configuration is refused.
+//! Which part of a configuration is refused.
 
 ghost use Rattle.std.specs.Prelude.{◌≡◌, IfOk, is_err, is_some};
 ghost use Rattle.toml.specs.View.{table_view};
@@ -26,7 +26,7 @@ use toml::{Table as Entries, Value};
 use values::limits::{MAX_FEEDS, MAX_SIDE_TABLES, MAX_VIEWS};
 use view_lang::{SideTable, Table};
 
-/// Where a configuration is refused.
+/// Which part of a configuration is refused.
 #[derive(Debug, Drop, PartialEq, Eq)]
 pub enum FaultLocation {
     /// The line of the text, counted from 1, at which it stops being TOML.
@@ -66,7 +66,7 @@ impl fmt::Display for FaultLocation {
     }
 }
 
-/// Finds where the configuration of a text is refused: the first part that is, in the order in which `read_config` reads
+/// Finds which part of the configuration of a text is refused: the first one, in the order in which `read_config` reads
 /// them; none where it is accepted.
 #[tactic(auto, unfolding(crate::specs::Config::text_means))]
 pub fn find_fault(alloc: Global, text: &str) -> Result<Option<FaultLocation>, AllocError>
@@ -87,7 +87,7 @@ fn line_at(text: &str, start: usize) -> usize {
     1 + before.filter(|byte| **byte == b'\n').count()
 }
 
-/// What was read, or none where a fault stands.
+/// What was read, or none where it has a fault.
 fn readable<T: Drop>(read: Result<T, ConfigFault>) -> Result<Option<T>, AllocError>
     ensures { IfOk result (Finds read) }
 {
@@ -120,7 +120,7 @@ fn find_in(alloc: Global, entries: &Entries) -> Result<Option<FaultLocation>, Al
     Ok(None)
 }
 
-/// The place of an entry of a section, or of what is refused in it.
+/// The location of an entry of a section, or of what is refused in it.
 fn place_by(
     alloc: Global,
     section: &str,
@@ -133,7 +133,7 @@ fn place_by(
     }
 }
 
-/// The entries of a section that is a table with at most so many.
+/// The entries of a section that is a table with at most this many.
 fn few_entries<'a>(entries: &'a Entries, section: &str, most: usize) -> Option<&'a Entries> {
     match entry_at(entries, section) {
         Some(Value::Table(named)) if check_few_entries(named, most).is_ok() => Some(named),
@@ -205,7 +205,7 @@ fn place_in_views(
     FaultLocation::of(alloc, &["view"])
 }
 
-/// The entry that is refused of a table that is.
+/// The entry that is refused of a table that is refused.
 fn table_entry(alloc: Global, value: &Value) -> Result<Option<&str>, AllocError> {
     let Value::Table(entries) = value else {
         return Ok(None);
@@ -225,7 +225,7 @@ fn table_entry(alloc: Global, value: &Value) -> Result<Option<&str>, AllocError>
     }
 }
 
-/// The entry that is refused of a view that is.
+/// The entry that is refused of a view that is refused.
 fn view_entry<'a>(
     alloc: Global,
     main: &Table,
@@ -251,7 +251,7 @@ fn view_entry<'a>(
     entry_in(alloc, &scope, entries)
 }
 
-/// The entry that is refused of a view with a lookup that isn't.
+/// The entry that is refused of a view whose lookup is accepted.
 fn entry_in(
     alloc: Global,
     scope: &Scope,

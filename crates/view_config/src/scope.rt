@@ -13,7 +13,7 @@ use std::marker::Model;
 use toml::Value;
 use values::LogicalField;
 
-/// The rows of which a column is named.
+/// The rows whose columns are named.
 #[derive(Clone, Copy, Debug)]
 pub(crate) enum Rows {
     Joined,
@@ -64,7 +64,7 @@ fn side_column<'a>(scope: &Scope<'a>, name: &str) -> Result<(usize, &'a LogicalF
     Ok((scope.main.len() + number, column))
 }
 
-/// The column of this name that this word tells of.
+/// The column of this name among those to which this word refers.
 fn reference_by<'a>(
     scope: &Scope<'a>,
     word: &str,

@@ -86,7 +86,7 @@ pub(crate) fn is_ordered(scope: &Scope, number: usize) -> bool
     }
 }
 
-/// Whether the values of the output at this place have an order.
+/// Whether the values of the output at this position have an order.
 #[tactic(auto, using(crate::proofs::OutputFields::output_types))]
 pub(crate) fn is_output_ordered(scope: &Scope, outputs: &Outputs, place: usize) -> bool
     ensures { result ≡ has_order (type_of (field_at (shown_in scope.now outputs.now) place)) }

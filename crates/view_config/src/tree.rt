@@ -1,4 +1,4 @@
-//! Helpers for the values of a TOML document. A value of another kind than is asked for is `Shape`.
+//! Helpers for the values of a TOML document. A value of another kind than is wanted is `Shape`.
 
 ghost use Rattle.std.specs.Prelude.{◌≡◌, ◌↔◌, IsNone, IsTrue, map, option_map};
 ghost use Rattle.values.specs.Reading.{Yields};

@@ -1,4 +1,4 @@
-//! Reads the types of columns. What is no type is `TypeText`.
+//! Reads the types of columns. What isn't a type is `TypeText`.
 
 ghost use Rattle.std.specs.Prelude.{◌≡◌, ◌≤◌, ◌<◌, IfOk};
 ghost use Rattle.values.specs.Reading.{Yields};

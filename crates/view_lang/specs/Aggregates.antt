@@ -45,9 +45,9 @@ column_read (aggregate.Sum k) = Some k
 column_read (aggregate.Least k) = Some k
 column_read (aggregate.Greatest k) = Some k
 
--- Over which columns it is.
+-- The columns over which it is.
 
--- A sum is over whole numbers, or over decimals of at most 28 digits: then 2^24 of them stay below 10^38.
+-- A sum is over whole numbers, or over decimals of at most 28 digits: then the sum of 2^24 of them is below 10^38.
 abbrev pub IsAddable : ColType → Type 0
 IsAddable (col.Int w s) = Unit {0}
 IsAddable (col.Decimal p s) = p ≤ max_sum_precision
@@ -63,12 +63,12 @@ IsAggregate fields by (aggregate.Sum k) = IsColumn fields k × IsAddable (type_o
 IsAggregate fields by (aggregate.Least k) = IsOrdered fields k
 IsAggregate fields by (aggregate.Greatest k) = IsOrdered fields k
 
--- Of which type its cells are.
+-- The type of its cells.
 
 abbrev pub count_type : ColType
 count_type = col.Int int.Bits64 true
 
--- A sum has the most digits that a decimal can have, as many of them after the point as what is added.
+-- A sum has the most digits that a decimal can have, as many of them after the point as the column.
 abbrev pub sum_type : ColType → ColType
 sum_type (col.Decimal p s) = col.Decimal max_precision s
 sum_type t = col.Decimal max_precision 0
@@ -94,7 +94,7 @@ aggregate_of (aggregate.Sum k) tuple rows = sum_of (values_at k rows)
 aggregate_of (aggregate.Least k) tuple rows = first_in direction.Ascending (values_at k rows)
 aggregate_of (aggregate.Greatest k) tuple rows = first_in direction.Descending (values_at k rows)
 
--- What can be kept of it.
+-- What can be accumulated for it.
 
 -- neither a list nor a struct
 abbrev pub IsKeyCell : Datum → Type 0

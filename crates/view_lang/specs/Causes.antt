@@ -1,4 +1,4 @@
--- Why an edit doesn't fit its table: the causes that stand, and the least of them.
+-- Why an edit doesn't fit its table: the causes that apply, and the least of them.
 use Rattle.std.specs.Prelude.{◌+◌, Bool, true, false, cond, not, ◌||◌, nat_lt, List, [], ◌∷◌, Option, find, length}
 use Rattle.values.specs.Datum.{Datum, items_of, is_null}
 use Rattle.values.specs.Rose.{Roses, none, more, kids_of}
@@ -18,7 +18,7 @@ unfoldable pub has_null : List Datum → Bool
 has_null [] = false
 has_null (k ∷ ks) = is_null k || has_null ks
 
--- a key stands twice
+-- a key is there twice
 unfoldable pub has_repeated : List Datum → Bool
 has_repeated [] = false
 has_repeated (k ∷ ks) = is_among k ks || has_repeated ks
@@ -49,7 +49,7 @@ any_heavy ls (row ∷ rows) = is_heavy ls row || any_heavy ls rows
 abbrev pub layouts_of : Table → Roses Layout
 layouts_of t = trees_of (kids_of t.columns)
 
--- Whether a cause stands against rows that come after all others.
+-- Whether a cause applies to rows that are added after all others.
 abbrev pub rows_have_cause : Table → Contents → List (List Datum) → Unfit → Bool
 rows_have_cause t c rows unfit.NullKey = has_null (keys_in t rows)
 rows_have_cause t c rows unfit.DuplicateKey = has_repeated (keys_in t rows) || any_among (keys_in t rows) (keys_in t c.live)
@@ -58,7 +58,7 @@ rows_have_cause t c rows unfit.TooManyRows =
     nat_lt t.max_rows (length c.live + length rows) || nat_lt max_appended_rows (c.appended + length rows)
 rows_have_cause t c rows unfit.CellTooHeavy = any_heavy (layouts_of t) rows
 
--- Whether a cause stands against keys whose rows are to go. Weight is no cause here: keys of live rows aren't too
+-- Whether a cause applies to keys whose rows are to be removed. Weight is no cause here: keys of live rows aren't too
 -- heavy.
 abbrev pub keys_have_cause : Table → Contents → List Datum → Unfit → Bool
 keys_have_cause t c keys unfit.NullKey = has_null keys
@@ -67,7 +67,7 @@ keys_have_cause t c keys unfit.UnknownKey = not (all_among keys (keys_in t c.liv
 keys_have_cause t c keys unfit.TooManyRows = false
 keys_have_cause t c keys unfit.CellTooHeavy = false
 
--- Rows that are put come after the others once those with their keys are gone.
+-- Rows that are put are added after the others once those with their keys are removed.
 abbrev pub stands : Table → Contents → TableEdit → Unfit → Bool
 stands t c (append rows) u = rows_have_cause t c rows u
 stands t c (retract keys) u = keys_have_cause t c keys u
@@ -77,7 +77,7 @@ stands t c (put rows) u = rows_have_cause t (without_keys t (keys_in t rows) c) 
 abbrev pub causes : List Unfit
 causes = unfit.NullKey ∷ unfit.DuplicateKey ∷ unfit.UnknownKey ∷ unfit.TooManyRows ∷ unfit.CellTooHeavy ∷ []
 
--- the least cause that stands; none where the edit fits
+-- the least cause that applies; none where the edit fits
 unfoldable pub cause_of : Table → Contents → TableEdit → Option Unfit
 cause_of t c e = find (stands t c e) causes
 

@@ -1,4 +1,4 @@
--- The rules that a configuration keeps that was read without a fault.
+-- The rules that a configuration obeys that was read without a fault.
 use Rattle.std.specs.Prelude.{◌≡◌, ℕ, suc, ◌<◌, ◌≤◌, true, All, List, length, Option, None, Some}
 use Rattle.std.specs.Str.{is_utf8}
 use Rattle.values.specs.Coded.{AreCoded}
@@ -30,7 +30,7 @@ abbrev pub IsOperand : List (Rose NamedType) → Operand → Type 0
 IsOperand fields (operand.Constant d) = Unit {0}
 IsOperand fields (operand.Column k) = IsOrdered fields k
 
--- What is compared is there, and has an order.
+-- What is compared exists, and has an order.
 abbrev mutual
   pub IsFilter : List (Rose NamedType) → Filter → Type 0
   IsFilter fields (compare c k o) = IsOrdered fields k × IsOperand fields o
@@ -66,7 +66,7 @@ abbrev pub IsHaving : List (Rose NamedType) → Outputs → Type 0
 IsHaving fields (columns outputs) = Unit {0}
 IsHaving fields (groups by outputs having) = IsFilterOf fields having
 
--- A view of these tables: 1 to 64 columns, with at most 1,024 fields at all levels, each column that it names is there,
+-- A view of these tables: 1 to 64 columns, with at most 1,024 fields at all levels, each column that it names exists,
 -- and those that are coded are texts.
 pub record IsView (tables : List Table) (v : View) : Type 0 where
   pub lookup : IsLookup tables v.lookup
@@ -79,13 +79,13 @@ pub record IsView (tables : List Table) (v : View) : Type 0 where
   pub order : All (λ o. IsOrdered (view_columns tables v) o.column) v.order
   pub coded : AreCoded v.coded_outputs (view_columns tables v)
 
--- a feed of a table that is there
+-- a feed of a table that exists
 abbrev pub IsFeed : List Table → FeedConfig → Type 0
 IsFeed tables f = table_of f.role < length tables
 
--- A configuration that a session can keep: its tables keep their rules, the main one with at most 2^24 rows and each
--- side table with 2^20; its feeds change tables that are there; its views keep their rules; and there are no more of
--- all these than the limits. Names may be there twice.
+-- A configuration that a session can have: its tables obey their rules, the main one with at most 2^24 rows and each
+-- side table with 2^20; its feeds change tables that exist; its views obey their rules; and there are no more of all
+-- these than the limits. Names may be there twice.
 pub record IsConfig (c : Config) : Type 0 where
   pub main : IsTable c.main
   pub main_rows : c.main.max_rows ≡ max_main_rows

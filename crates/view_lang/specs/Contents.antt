@@ -1,4 +1,4 @@
--- What a table holds, and what an edit makes of it.
+-- What a table holds, and what it holds after an edit.
 use Rattle.std.specs.Prelude.{ℕ, ◌+◌, ◌++◌, Bool, false, not, ◌||◌, List, [], ◌∷◌, filter, length, map}
 use Rattle.std.specs.Ordering.{is_eq}
 use Rattle.values.specs.Datum.{Datum}
@@ -7,7 +7,7 @@ use Rattle.view_lang.specs.Cells.{cell_at}
 use Rattle.view_lang.specs.Config.{Table}
 use Rattle.view_lang.specs.Edits.{TableEdit, append, put, retract}
 
--- the live rows in the order in which they came, and how many rows came in all, those that went away too
+-- the live rows in the order in which they were added, and how many rows were added in all, removed ones too
 pub record Contents : Type 0 where
   pub live : List (List Datum)
   pub appended : ℕ
@@ -15,7 +15,7 @@ pub record Contents : Type 0 where
 abbrev pub no_contents : Contents
 no_contents = record { live = []; appended = 0 }
 
--- Two keys are the same where their values are: neither stands before the other.
+-- Two keys are the same where their values are: neither comes before the other.
 abbrev pub same_key : Datum → Datum → Bool
 same_key a b = is_eq (datum_cmp a b)
 

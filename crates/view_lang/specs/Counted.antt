@@ -1,4 +1,4 @@
--- Counting over a change: the rows before it and all that it brings count as the rows after it and all that it takes.
+-- Counting over a change: the rows before it and all that it adds count as the rows after it and all that it removes.
 use Rattle.std.specs.Prelude.{
   ◌≡◌,
   ℕ,
@@ -93,7 +93,7 @@ counted rows change fits p = sums (λ (r : List Datum). cond (p r) 1 0) change r
 agrees : (n x y : ℕ) → is_at (nat_cmp n) x ≡ true → is_at (nat_cmp n) y ≡ eq_by_cmp nat_cmp x y
 agrees n x y h = (eq_by_cmp_equiv nat_cmp_total).congr n x y h
 
--- what stands at each number
+-- the row at each number
 pub lookup-with_at : (n m : ℕ) (a : Option (List Datum)) (rows : NumberedRows)
     → IsStrictlySortedBy nat_cmp (keys_of rows)
     → lookup (is_at (nat_cmp m)) (with_at n a rows) ≡ cond (is_at (nat_cmp n) m) a (lookup (is_at (nat_cmp m)) rows)
@@ -101,7 +101,7 @@ lookup-with_at n m None rows s = lookup-remove_entry (eq_by_cmp_equiv nat_cmp_to
     rows (IsDistinct-from_sorted nat_cmp (keys_of rows) s)
 lookup-with_at n m (Some r) rows s = lookup-insert_entry nat_cmp_total n m r rows
 
--- each part of a change, when the parts before it are in place
+-- each part of a change, when the parts before it are done
 pub fits-at : (rows : NumberedRows) (es : List Shift) → Fits rows es → (i : ℕ) (e : Shift) → i < length es
     → e ≡ get_or es i e
     → IsStrictlySortedBy nat_cmp (keys_of (patched rows (take i es)))

@@ -1,4 +1,4 @@
--- Edits of tables: what the record batches of feeds say. Each batch is one edit, also one without rows.
+-- Edits of tables: the meaning of the record batches of feeds. Each batch is one edit, also one without rows.
 use Rattle.std.specs.Prelude.{ℕ, suc, List, map}
 use Rattle.values.specs.Datum.{Datum}
 use Rattle.view_lang.specs.Cells.{cell_at}
@@ -7,11 +7,11 @@ use Rattle.view_lang.specs.declared.config.Role.TheVariants as role
 
 -- what an edit does to its table
 pub data TableEdit : Type 0 where
-  -- these rows come after all live rows
+  -- these rows are added after all live rows
   append : List (List Datum) → TableEdit
-  -- the rows with these keys go away
+  -- the rows with these keys are removed
   retract : List Datum → TableEdit
-  -- the rows with the keys of these go away, and then these come after all live rows
+  -- the rows with the keys of these are removed, and then these are added after all live rows
   put : List (List Datum) → TableEdit
 
 -- an edit of the table of this number: 0 is the main table, and the side tables come after it
@@ -40,6 +40,6 @@ change_of role.Retract rows = retract (map first_cell rows)
 change_of (role.Put side) rows = put rows
 change_of (role.Drop side) rows = retract (map first_cell rows)
 
--- the edit that a batch of these rows is, by the role of its feed
+-- the edit of a batch of these rows, by the role of its feed
 abbrev pub edit_of : Role → List (List Datum) → Edit
 edit_of role rows = edit_at (table_of role) (change_of role rows)

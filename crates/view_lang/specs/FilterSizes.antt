@@ -1,4 +1,4 @@
--- The size of a filter bounds its depth, by which going through it ends.
+-- The size of a filter bounds its depth, by which walking it terminates.
 use Rattle.std.specs.Prelude.{◌≤◌}
 use Rattle.std.proofs.Common.{arith}
 use Rattle.view_lang.specs.Filter.{filter_size, most_le-parts_size}

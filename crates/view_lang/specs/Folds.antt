@@ -24,11 +24,11 @@ abbrev pub sum_of : List Datum → Datum
 sum_of [] = null
 sum_of (d ∷ ds) = whole (total (d ∷ ds))
 
--- which of two cells stands first in an order, in which nulls are last
+-- which of two cells comes first in an order, in which nulls are last
 abbrev pub earlier : Direction → Datum → Datum → Datum
 earlier o a b = cond (is_gt (cell_cmp o a b)) b a
 
--- The least is the first ascending, the greatest the first descending. Null is the first of none.
+-- The least is the first ascending, the greatest the first descending. Of no values the first is null.
 unfoldable pub first_in : Direction → List Datum → Datum
 first_in o [] = null
 first_in o (d ∷ ds) = earlier o d (first_in o ds)

@@ -1,4 +1,4 @@
--- Changes of rows as changes of what is made of each of them.
+-- Changes of rows as changes of their images.
 use Rattle.std.specs.Prelude.{◌≡◌, ℕ, List, [], ◌∷◌, map, Option, None, Some}
 use Rattle.std.specs.List.{filter_map}
 use Rattle.std.specs.List.Sorted.{IsStrictlySortedBy}
@@ -12,7 +12,7 @@ abbrev pub image_by : ℕ → Option (List Datum) → NumberedRows → NumberedR
 image_by n None rows = rows
 image_by n (Some row) rows = (n, row) ∷ rows
 
--- what is made of each row, under the row's number; of some nothing is made
+-- the images of the rows, with the rows' numbers; some rows have none
 abbrev pub image : (List Datum → Option (List Datum)) → NumberedRows → NumberedRows
 image make [] = []
 image make (e ∷ es) = image_by e.0 (make e.1) (image make es)
@@ -20,25 +20,25 @@ image make (e ∷ es) = image_by e.0 (make e.1) (image make es)
 abbrev pub shift_image : (List Datum → Option (List Datum)) → Shift → Shift
 shift_image make s = shift s.number (option_and_then make s.before) (option_and_then make s.after)
 
--- A change that fits the rows fits what is made of them,
+-- A change that fits the rows fits their images,
 abbrev pub ImageFits : Type 0
 ImageFits =
     (make : List Datum → Option (List Datum)) (rows : NumberedRows) (change : List Shift) → Fits rows change
     → Fits (image make rows) (map (shift_image make) change)
 
--- and leads to what is made of the rows after it.
+-- and leads to the images of the rows after it.
 abbrev pub ImagePatched : Type 0
 ImagePatched =
     (make : List Datum → Option (List Datum)) (rows : NumberedRows) (change : List Shift) → Fits rows change
     → image make (patched rows change) ≡ patched (image make rows) (map (shift_image make) change)
 
--- In order, it is what is made of the rows in order.
+-- In order, they are the images of the rows in order.
 abbrev pub ImageValues : Type 0
 ImageValues =
     (make : List Datum → Option (List Datum)) (rows : NumberedRows)
     → values_of (image make rows) ≡ filter_map make (values_of rows)
 
--- Under a number stands what is made of the row under it.
+-- Each number has the image of its row.
 abbrev pub ImageAt : Type 0
 ImageAt =
     (make : List Datum → Option (List Datum)) (rows : NumberedRows) (n : ℕ)

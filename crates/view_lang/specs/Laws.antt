@@ -24,7 +24,7 @@ use Rattle.view_lang.specs.Views.{output_rows, view_input, view_rows}
 use Rattle.view_lang.specs.World.{table_at}
 use Rattle.view_lang.specs.declared.view.Lookup.{Lookup}
 
--- The columns of a view keep the rules of a table's columns.
+-- The columns of a view obey the rules of a table's columns.
 abbrev pub ViewsAreTables : Type 0
 ViewsAreTables =
     (tables : List Table) (v : View) → All IsTable tables → IsView tables v → AreColumns (view_columns tables v)
@@ -45,7 +45,7 @@ pub record Viewed (tables : List Table) (v : View) (side : Side) (rows : List (L
   pub few : length rows ≤ max_main_rows
   pub looked_up : All (IsLookedUp tables v.lookup side) rows
 
--- The sums of a view's groups can be made.
+-- The sums of a view's groups fit their type.
 abbrev pub ViewsCanSum : Type 0
 ViewsCanSum =
     (tables : List Table) (v : View) (side : Side) (rows : List (List Datum)) → Viewed tables v side rows
@@ -82,7 +82,7 @@ pub record AreKeyed (t : Table) (c : Contents) : Type 0 where
   pub not_null : has_null (keys_in t c.live) ≡ false
   pub distinct : has_repeated (keys_in t c.live) ≡ false
 
--- A table without rows is so, and an edit that fits leaves one so.
+-- A table without rows is keyed so, and stays so after an edit that fits.
 abbrev pub NoRowsAreKeyed : Type 0
 NoRowsAreKeyed = (t : Table) → AreKeyed t no_contents
 

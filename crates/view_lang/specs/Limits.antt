@@ -14,7 +14,7 @@ max_feeds = 16
 abbrev pub max_views : ℕ
 max_views = 32
 
--- rows of a table by all accepted appends and puts that aren't undone, those that went away too
+-- rows of a table by all accepted appends and puts that aren't undone, removed ones too
 abbrev pub max_appended_rows : ℕ
 max_appended_rows = 2 ^ 62
 

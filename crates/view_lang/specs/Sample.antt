@@ -44,8 +44,8 @@ row_with first second = first ∷ second ∷ []
 abbrev pub nulls : ℕ → Datum
 nulls n = list (items_of (replicate n null))
 
--- From the newest on: a side row goes away, one takes the place of another, two come; a row of the main table goes away
--- after three came.
+-- From the newest on: a side row is removed, one replaces another, two are put; a row of the main table is retracted
+-- after three were appended.
 abbrev pub sample_edits : List Edit
 sample_edits =
     edit_at 1 (retract (number 2 ∷ [])) ∷ edit_at 1 (put (row_with (number 1) (number 20) ∷ []))
@@ -74,8 +74,8 @@ sample_view =
 abbrev pub sample_shown : List (List Datum)
 sample_shown = (null ∷ number 20 ∷ []) ∷ (nulls 1 ∷ null ∷ []) ∷ []
 
--- An edit for each cause: a null key beside one that is live, a live key, a key twice, a key that isn't there, a row
--- too many, and a list of 16 nulls.
+-- An edit for each cause: a null key with one that is live, a live key, a key twice, a key that isn't live, a row too
+-- many, and a list of 16 nulls.
 
 abbrev pub null_key : Edit
 null_key = edit_at 0 (append (row_with (number 1) null ∷ row_with null null ∷ []))
@@ -99,7 +99,7 @@ heavy_row = edit_at 0 (append (row_with (number 5) (nulls 16) ∷ []))
 abbrev pub light_row : Edit
 light_row = edit_at 0 (append (row_with (number 5) (nulls 15) ∷ []))
 
--- A side row may take the place of another, but a key may not come twice, and the rows may not become too many.
+-- A side row may replace another, but a key may not be there twice, and the rows may not become too many.
 
 abbrev pub put_again : Edit
 put_again = edit_at 1 (put (row_with (number 1) null ∷ row_with (number 2) null ∷ []))

@@ -44,7 +44,7 @@ abbrev pub patched : NumberedRows → List Shift → NumberedRows
 patched rows [] = rows
 patched rows (s ∷ ss) = patched (with_at s.number s.after rows) ss
 
--- Each number has the row that the change says is there before, once what comes earlier in the change is done.
+-- Each number has the row that the change gives before it, once the earlier parts of the change are done.
 abbrev pub FitsInTurn : NumberedRows → List Shift → Type 0
 FitsInTurn rows [] = Unit {0}
 FitsInTurn rows (s ∷ ss) = (row_at s.number rows ≡ s.before) × FitsInTurn (with_at s.number s.after rows) ss
@@ -53,14 +53,14 @@ pub record Fits (rows : NumberedRows) (change : List Shift) : Type 0 where
   pub ascending : IsStrictlySortedBy nat_cmp (keys_of rows)
   pub in_turn : FitsInTurn rows change
 
--- A state that is kept for rows follows the change at one number: what was kept for these rows is kept for the rows
+-- A state that is computed from rows follows the change at one number: what was that of these rows is that of the rows
 -- after it.
 abbrev pub FollowsShift : (NumberedRows → Type 0) → (NumberedRows → Type 0) → Shift → NumberedRows → Type 0
 FollowsShift was is s rows =
     IsStrictlySortedBy nat_cmp (keys_of rows) → row_at s.number rows ≡ s.before → was rows
     → is (with_at s.number s.after rows)
 
--- rows and changes so few that they can be counted: fewer than may come to a table in all
+-- rows and changes so few that they can be counted: fewer than may be added to a table in all
 abbrev pub IsFew : NumberedRows → List Shift → Type 0
 IsFew rows change = length rows + length change < max_appended_rows
 
@@ -69,11 +69,11 @@ abbrev pub push_some : Option (List Datum) → List (List Datum) → List (List 
 push_some None rows = rows
 push_some (Some row) rows = row ∷ rows
 
--- rows, and all that a change brings
+-- rows, and all that a change adds
 abbrev pub with_afters : List Shift → List (List Datum) → List (List Datum)
 with_afters change rows = fold (λ (rs : List (List Datum)) (s : Shift). push_some s.after rs) rows change
 
--- rows, and all that a change takes
+-- rows, and all that a change removes
 abbrev pub with_befores : List Shift → List (List Datum) → List (List Datum)
 with_befores [] rows = rows
 with_befores (s ∷ ss) rows = push_some s.before (with_befores ss rows)

@@ -1,4 +1,4 @@
--- The rules that each declared table keeps.
+-- The rules that each declared table obeys.
 use Rattle.std.specs.Prelude.{◌≡◌, ℕ, ◌≤◌, List, Some, length, slice_get}
 use Rattle.values.specs.ColTypes.{IsSingle, IsType}
 use Rattle.values.specs.declared.col_type.ColType.{ColType}
@@ -22,7 +22,7 @@ abbrev mutual
   AreWithin none = Unit {0}
   AreWithin (more f fs) = IsWithin f × AreWithin fs
 
--- no slot, at any level, is above 2^20
+-- no null weight, at any level, is above 2^20
 abbrev mutual
   pub IsSlim : Rose Layout → Type 0
   IsSlim (node l kids) = (null_weight (node l kids) ≤ max_null_weight) × AreSlim kids
@@ -32,8 +32,8 @@ abbrev mutual
   AreSlim (more t ts) = IsSlim t × AreSlim ts
 
 -- The columns of a declared table or view. They are 1 to 64, with at most 1,024 fields at all levels and a depth of at
--- most 16; names are texts, types and slots are within their bounds, and each field has the children that its type
--- wants.
+-- most 16; names are texts, types and null weights are within their bounds, and each field has the children that its
+-- type requires.
 pub record AreColumns (fields : List (Rose NamedType)) : Type 0 where
   pub some : 1 ≤ length fields
   pub few : length fields ≤ max_columns
@@ -56,6 +56,6 @@ pub record IsTable (t : Table) : Type 0 where
   pub key : IsKeyColumn t.key t.columns
   pub few : t.max_rows ≤ max_main_rows
 
--- A side table is one by its bound on rows; the main table's is another.
+-- A side table is known by its bound on rows; the main table's is another.
 abbrev pub IsSideTable : Table → Type 0
 IsSideTable t = t.max_rows ≡ max_side_rows

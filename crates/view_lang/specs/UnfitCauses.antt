@@ -1,4 +1,4 @@
--- The cause that an edit is refused with that doesn't fit: the one of the same name.
+-- The cause for which an unfit edit is refused: the one of the same name.
 use Rattle.values.specs.declared.causes.Cause.{Cause}
 use Rattle.values.specs.declared.causes.Cause.TheVariants as cause
 use Rattle.view_lang.specs.declared.unfit.Unfit.{Unfit}

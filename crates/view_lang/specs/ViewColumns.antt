@@ -12,7 +12,7 @@ use Rattle.view_lang.specs.declared.config.Role.{Role}
 use Rattle.view_lang.specs.declared.config.Role.TheVariants as role
 use Rattle.view_lang.specs.declared.view.Lookup.{Lookup}
 
--- What the batches of a feed carry: all columns of its table, or the key column alone.
+-- The columns of a feed's batches: all columns of its table, or the key column alone.
 
 abbrev pub key_column : Table → List (Rose NamedType)
 key_column t = field_at t.columns t.key ∷ []
@@ -28,7 +28,7 @@ feed_columns tables r = columns_by r (table_at tables (table_of r))
 
 -- The columns of a view.
 
--- the columns of the joined rows that a view is made of
+-- the columns of the joined rows from which a view is computed
 abbrev pub joined_columns : List Table → Option Lookup → List (Rose NamedType)
 joined_columns tables None = (table_at tables 0).columns
 joined_columns tables (Some l) = (table_at tables 0).columns ++ (table_at tables (suc l.side)).columns

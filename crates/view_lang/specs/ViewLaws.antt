@@ -1,4 +1,4 @@
--- Laws of filters, of the order of rows, of groups, and of what can be kept of them.
+-- Laws of filters, of the order of rows, of groups, and of what can be accumulated of them.
 use Rattle.std.specs.Prelude.{◌≡◌, ◌↔◌, ◌<◌, ℕ, Bool, true, false, not, ◌&&◌, ◌||◌, if◌then◌else◌, All, List, [], ◌∷◌, length, map, None, Some}
 use Rattle.std.specs.List.{AllByRecursion, Contains, filter_map, list_any}
 use Rattle.std.specs.Option.{option_map}
@@ -80,7 +80,7 @@ NotOfComparison =
     (row : List Datum) (c : Comparison) (k : ℕ) (o : Operand)
     → truth row (negation (compare c k o)) ≡ truth row (compare (opposite c) k o)
 
--- A filter and its negation are never both true; so it is of a comparison and the opposite one.
+-- A filter and its negation are never both true; nor are a comparison and the opposite one.
 abbrev pub NeverBoth : Type 0
 NeverBoth = (row : List Datum) (f : Filter) → (is_true (truth row f) && is_true (truth row (negation f))) ≡ false
 
@@ -104,7 +104,7 @@ abbrev mutual
   AreOver n no_part = Unit {0}
   AreOver n (part f fs) = IsOver n f × AreOver n fs
 
--- how a filter reads with two truth values
+-- the meaning of a filter with two truth values
 abbrev mutual
   pub reading : List Datum → Filter → Bool
   reading row (compare c k o) = holds c (datum_cmp (cell_at row k) (operand_of row o))
@@ -121,18 +121,18 @@ abbrev mutual
   reading_of_any row no_part = false
   reading_of_any row (part f fs) = reading row f || reading_of_any row fs
 
--- On a row without nulls a filter is true or false, as it reads.
+-- On a row without nulls a filter is true or false, by this meaning.
 abbrev pub TwoValuedWithoutNulls : Type 0
 TwoValuedWithoutNulls =
     (row : List Datum) (f : Filter) → HasNoNulls row → IsOver (length row) f → truth row f ≡ Some (reading row f)
 
 -- Order.
 
--- Any two rows are ranked, and rows that tie are ranked alike.
+-- Any two rows are comparable, and rows that tie compare alike with others.
 abbrev pub RowsAreRanked : Type 0
 RowsAreRanked = (os : List OrderBy) → IsTotalOrder (row_cmp os)
 
--- The sorted rows are the only rearrangement that is sorted, with ties as they stood.
+-- The sorted rows are the only rearrangement that is sorted and stable.
 abbrev pub SortedIsTheArrangement : Type 0
 SortedIsTheArrangement =
     (os : List OrderBy) (rows others : List (List Datum))
@@ -140,7 +140,7 @@ SortedIsTheArrangement =
 
 -- Groups.
 
--- Each grouping tuple is below the next, so none stands twice.
+-- Each grouping tuple is below the next, so none is there twice.
 abbrev pub TuplesAscend : Type 0
 TuplesAscend = (by : List ℕ) (rows : List (List Datum)) → IsStrictlySortedBy tuple_cmp (tuples_of by rows)
 
@@ -155,7 +155,7 @@ TuplesCover =
     (k : ℕ) (ks : List ℕ) (rows : List (List Datum)) (row : List Datum)
     → Contains rows row → list_any (same_tuple (cells_at (k ∷ ks) row)) (tuples_of (k ∷ ks) rows) ≡ true
 
--- Asked for tuples, the grouping tuples answer as those of the rows do.
+-- A tuple is among the grouping tuples exactly where a row has it.
 abbrev pub TuplesAsk : Type 0
 TuplesAsk =
     (k : ℕ) (ks : List ℕ) (rows : List (List Datum)) (t : List Datum)
@@ -167,13 +167,13 @@ abbrev pub UsesKeys : List ℕ → List GroupOutput → List Datum → Type 0
 UsesKeys by outs row =
     AllByRecursion (λ k. IsKeyCell (cell_at row k)) by × AllByRecursion (λ o. ComparesKeys o.aggregate row) outs
 
--- Group rows depend on which rows there are, and not on where they stand.
+-- Group rows depend on which rows there are, and not on their order.
 abbrev pub GroupsOfMultiset : Type 0
 GroupsOfMultiset =
     (by : List ℕ) (outs : List GroupOutput) (rows others : List (List Datum)) → IsPermutation rows others
     → AllByRecursion (UsesKeys by outs) rows → group_rows by outs rows ≡ group_rows by outs others
 
--- What can be kept of groups.
+-- What can be accumulated of groups.
 
 abbrev pub first_or_null : List Datum → Datum
 first_or_null [] = null
@@ -185,7 +185,7 @@ FirstOfSorted = (o : Direction) (ds : List Datum) → first_in o ds ≡ first_or
 
 -- Rows one by one.
 
--- The rows that a view is made of are what it keeps of each row,
+-- The rows from which a view is computed are those that it makes of each row,
 abbrev pub KeptOneByOne : Type 0
 KeptOneByOne =
     (v : View) (side : Side) (rows : List (List Datum)) → filter_map (passing_row v side) rows ≡ view_input v side rows

@@ -42,7 +42,7 @@ by_column k d = record { column = k; direction = d } ∷ []
 abbrev pub no_side : Side
 no_side _ = None
 
--- Numbers and amounts, of which one is null and one below zero. Only that of which it is known isn't at least zero.
+-- Numbers and amounts, of which one is null and one below zero. `not` of at least zero is true of the latter alone.
 
 abbrev pub amounts : List (List Datum)
 amounts = (number 1 ∷ number 5 ∷ []) ∷ (number 2 ∷ null ∷ []) ∷ (number 3 ∷ whole (negsuc 0) ∷ []) ∷ []
@@ -83,7 +83,7 @@ text_outputs =
 abbrev pub by_text : View
 by_text = view_by None None (groups (1 ∷ []) text_outputs None) [] None
 
--- Of two groups one has two distinct amounts. It alone is shown, and is the first that is.
+-- Of two groups one has two distinct amounts. It alone is shown, and is the first row.
 
 abbrev pub paired_rows : List (List Datum)
 paired_rows =

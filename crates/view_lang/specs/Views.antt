@@ -13,11 +13,11 @@ use Rattle.view_lang.specs.Truth.{passes}
 use Rattle.view_lang.specs.World.{World, contents_at, table_at}
 use Rattle.view_lang.specs.declared.view.Lookup.{Lookup}
 
--- The rows that the view is made of: those of the main table, joined and filtered.
+-- The rows from which the view is computed: those of the main table, joined and filtered.
 unfoldable pub view_input : View → Side → List (List Datum) → List (List Datum)
 view_input v side rows = filter (passes v.filter) (joined v.lookup side rows)
 
--- what one row of the main table gives to these: the row joined, if it is kept
+-- what one row of the main table gives: the joined row, if it passes the filter
 abbrev pub passing_row : View → Side → List Datum → Option (List Datum)
 passing_row v side row = option_and_then (λ r. cond (passes v.filter r) (Some r) None) (joined_row v.lookup side row)
 
@@ -27,7 +27,8 @@ output_cell row o = cell_at row o.column
 abbrev pub shown_row : List Output → List Datum → List Datum
 shown_row outputs row = map (output_cell row) outputs
 
--- Plain rows stand by arrival, group rows by their tuples; of these only those are there of which `having` is true.
+-- Plain rows are in the order of arrival, group rows in that of their tuples; of these only those of which `having` is
+-- true.
 unfoldable pub output_rows : Outputs → List (List Datum) → List (List Datum)
 output_rows (columns outputs) rows = map (shown_row outputs) rows
 output_rows (groups by outputs having) rows = filter (passes having) (group_rows by outputs rows)
@@ -36,7 +37,7 @@ abbrev pub first_of : {X : Type 0} → Option ℕ → List X → List X
 first_of None xs = xs
 first_of (Some n) xs = take n xs
 
--- what is shown of the rows that the view is made of: the first of the outputs, sorted, with ties as they stand
+-- what is shown of the rows from which the view is computed: the first of the outputs, in a stable sort
 unfoldable pub shown_rows : View → List (List Datum) → List (List Datum)
 shown_rows v rows = first_of v.first (sorted (row_cmp v.order) (output_rows v.outputs rows))
 

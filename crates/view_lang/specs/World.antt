@@ -8,7 +8,7 @@ use Rattle.view_lang.specs.Edits.{Edit}
 abbrev pub World : Type 0
 World = List Contents
 
--- what stands for a table where there is none of a number
+-- the result where there is no table of a number
 abbrev pub no_table : Table
 no_table = record { key = 0; max_rows = 0; columns = [] }
 

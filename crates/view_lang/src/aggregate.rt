@@ -11,7 +11,7 @@ use values::{ColType, IntWidth, LogicalField};
 /// What is shown of a group.
 #[derive(Clone, Copy, Debug, PartialEq, Eq)]
 pub enum Aggregate {
-    /// The grouping column at this place in `by`.
+    /// The grouping column at this index of `by`.
     Key(usize),
     /// How many rows the group has.
     Count,
@@ -49,7 +49,8 @@ fn sum_type(added: &ColType) -> ColType
     }
 }
 
-/// The column of this name that shows an aggregate of joined rows, whose columns are `main` and `side`, grouped by `by`.
+/// The column of this name that shows an aggregate of joined rows, whose columns are `main` and `side`, grouped by
+/// `by`.
 pub(crate) fn aggregate_field(
     alloc: Global,
     main: &[LogicalField],

@@ -8,8 +8,8 @@ use std::alloc::{AllocError, Global};
 use std::marker::Model;
 use values::{Row, Value};
 
-/// The change at one row number: the row before it, and the row after it. A row that comes has none before, one that
-/// goes has none after.
+/// The change at one row number: the row before it, and the row after it. A row that is inserted has none before, one
+/// that is deleted has none after.
 #[derive(Debug, Drop)]
 pub struct RowChange {
     number: usize,
@@ -87,7 +87,7 @@ impl Model for Change {
 }
 
 impl Change {
-    /// A change of nothing.
+    /// A list without changes.
     pub fn new(alloc: Global) -> Change
         ensures { result ≡ [] }
     {

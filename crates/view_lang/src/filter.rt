@@ -27,13 +27,13 @@ pub enum Comparison {
     Equal,
     /// `ne`: the two aren't equal.
     Different,
-    /// `lt`: the first stands before the second.
+    /// `lt`: the first comes before the second.
     Below,
-    /// `le`: the first doesn't stand after the second.
+    /// `le`: the first doesn't come after the second.
     AtMost,
-    /// `gt`: the first stands after the second.
+    /// `gt`: the first comes after the second.
     Above,
-    /// `ge`: the first doesn't stand before the second.
+    /// `ge`: the first doesn't come before the second.
     AtLeast,
 }
 

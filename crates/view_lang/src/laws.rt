@@ -50,14 +50,14 @@ use values::limits::{
     MAX_VIEWS,
 };
 
-/// The columns of a view that keeps the rules of `specs/ConfigRules.antt` keep those of a table's columns.
+/// The columns of a view that obeys the rules of `specs/ConfigRules.antt` obey those of a table's columns.
 pub fn config_law()
     ensures views { ViewsAreTables }
 {}
 
 /// A row that isn't too heavy for an edit is within the limits on rows. Of such rows, at most as many as a table may
-/// have, the sums of a view's groups fit their type, and the rows that it shows are rows of its columns, and no more.
-/// What a view groups by, compares or orders by is neither a list nor a struct.
+/// have, the sums of a view's groups fit their type, and the rows that the view shows are rows of its columns, and no
+/// more than those. What a view groups by, compares or orders by is neither a list nor a struct.
 pub fn rows_law()
     ensures light { RowsAreLight }
     ensures sums { ViewsCanSum }

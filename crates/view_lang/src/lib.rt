@@ -2,9 +2,9 @@
 //! the views that are written of them.
 //!
 //! `specs/Config.antt` is a configuration as contracts see it, and `specs/ConfigRules.antt` says which rules an
-//! accepted one keeps. `specs/Edits.antt` are the edits that feeds bring, `specs/World.antt` is what they leave of the
-//! tables, and `specs/Causes.antt` says why an edit isn't taken. `specs/Views.antt` says what a view shows: `Joined` of
-//! rows with what is looked up, `Truth` of filters, `Groups`, and the order of rows (`RowOrder`, `Sorted`).
+//! accepted one obeys. `specs/Edits.antt` has the edits of the batches of feeds, `specs/World.antt` is what they leave
+//! of the tables, and `specs/Causes.antt` says why an edit is refused. `specs/Views.antt` says what a view shows:
+//! `Joined` of rows with what is looked up, `Truth` of filters, `Groups`, and the order of rows (`RowOrder`, `Sorted`).
 //! `specs/Laws.antt` and `specs/ViewLaws.antt` say what follows.
 #![tactic(auto)]
 

@@ -11,7 +11,7 @@ use crate::view::Output;
 use std::alloc::{AllocError, Global};
 use values::Row;
 
-/// The output row that a view with these outputs makes of a joined row.
+/// The output row of a view with these outputs for a joined row.
 #[tactic(auto, using(crate::proofs::ShownRows::cell_steps))]
 pub fn project<R: RowView>(alloc: Global, outputs: &[Output], row: &R) -> Result<Row, AllocError>
     ensures { IfOk result (λ shown. shown.items ≡ shown_row outputs.now (R.cells row.now)) }

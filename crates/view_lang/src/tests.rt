@@ -1,4 +1,4 @@
-//! Rows that views filter, join, group, sort and cut.
+//! Rows that views filter, join, group, sort and limit.
 
 ghost use Rattle.std.specs.Prelude.{◌≡◌, ◌≤◌, IfOk, List, length};
 ghost use Rattle.values.specs.Datum.{Datum};

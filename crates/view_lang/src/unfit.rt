@@ -3,19 +3,19 @@
 use thiserror::Error;
 use values::Cause;
 
-/// Why an edit doesn't fit its table, in the order of the causes' numbers, 41 to 45. Where several stand, the first is
+/// Why an edit doesn't fit its table, in the order of the causes' numbers, 41 to 45. Where several apply, the first is
 /// reported.
 #[derive(Clone, Copy, Debug, PartialEq, Eq, Error)]
 #[error("{cause}", cause = Cause::from(*self))]
 pub enum Unfit {
     /// A key is null.
     NullKey,
-    /// A key stands twice in the batch, or an appended key is live.
+    /// A key is there twice in the batch, or an appended key is live.
     DuplicateKey,
     /// A retracted key isn't live.
     UnknownKey,
     /// The main table would have more than 2^24 live rows, or a side table more than 2^20, or more than 2^62 rows would
-    /// have come to a table in all.
+    /// have been added to a table in all.
     TooManyRows,
     /// A cell weighs more than 2^20, or a row more than 2^26.
     CellTooHeavy,

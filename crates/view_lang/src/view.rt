@@ -7,8 +7,8 @@ use crate::aggregate::Aggregate;
 use crate::filter::Filter;
 use std::marker::Model;
 
-/// A view: the rows of the main table are joined with a side table's, filtered, projected or grouped, sorted, and cut
-/// to the first, in this order. Group rows may be filtered once more before they are sorted.
+/// A view: the rows of the main table are joined with a side table's, filtered, projected or grouped, sorted, and
+/// limited to the first, in this order. Group rows may be filtered once more before they are sorted.
 #[derive(Debug, Drop)]
 pub struct View {
     pub name: String,
@@ -19,7 +19,7 @@ pub struct View {
     pub order: Vec<OrderBy>,
     /// How many rows the view shows at most; all where there is no number.
     pub first: Option<usize>,
-    /// The outputs that are written with dictionaries, by their places, in ascending order.
+    /// The outputs that are written with dictionaries, by their positions, in ascending order.
     pub coded_outputs: Vec<usize>,
 }
 
@@ -56,7 +56,7 @@ pub struct Lookup {
     pub columns: usize,
 }
 
-/// What becomes of a row of the main table for which the side table has no row.
+/// What is shown for a row of the main table for which the side table has no row.
 #[derive(Clone, Copy, Debug, PartialEq, Eq)]
 pub enum Missing {
     /// The columns of the side table are null.
@@ -75,7 +75,7 @@ pub enum Outputs {
     Groups {
         by: Vec<usize>,
         columns: Vec<GroupOutput>,
-        /// Only rows are shown of which it is true. Its columns are places in `columns`.
+        /// Only rows are shown of which it is true. Its columns are positions in `columns`.
         having: Option<Filter>,
     },
 }
@@ -120,7 +120,7 @@ impl Model for GroupOutput {
 /// A column of the output by which rows are sorted.
 #[derive(Clone, Copy, Debug)]
 pub struct OrderBy {
-    /// The place of the column among the view's outputs.
+    /// The position of the column among the view's outputs.
     pub column: usize,
     pub direction: Direction,
 }

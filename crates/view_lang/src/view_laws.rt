@@ -57,8 +57,7 @@ pub fn truth_law()
     ensures two_valued { TwoValuedWithoutNulls }
 {}
 
-/// Any two rows are ranked, and the sorted rows are the only rearrangement that is sorted and leaves ties as they
-/// stood.
+/// Any two rows are comparable, and the sorted rows are the only rearrangement that is sorted and stable.
 #[tactic(auto, using(crate::proofs::OrderLaws::order_laws))]
 pub fn order_law()
     ensures ranked { RowsAreRanked }
@@ -76,16 +75,16 @@ pub fn group_law()
     ensures multiset { GroupsOfMultiset }
 {}
 
-/// Joining, filtering and projecting go row by row: the rows that a view is made of, and the plain rows that it shows,
-/// are those that it makes of each row.
+/// Joining, filtering and projecting work row by row: the rows from which a view is computed, and the plain rows that
+/// it shows, are those that it makes of each row.
 #[tactic(auto, using(crate::proofs::OneByOne::one_by_one_laws))]
 pub fn one_by_one_law()
     ensures kept { KeptOneByOne }
     ensures shown { ShownOneByOne }
 {}
 
-/// Where something is made of each row, a change of the rows is a change of what is made of them, and leads to what is
-/// made of the rows after it.
+/// Where a function gives something or nothing for each row, a change of the rows gives a change of these images, which
+/// leads to the images of the rows after it.
 #[tactic(auto, using(crate::proofs::RowImages::image_laws))]
 pub fn image_law()
     ensures fits { ImageFits }

@@ -93,7 +93,7 @@ fn push_items<'a>(all: &mut Vec<Segment<'a>>, range: &SlotRange<'a>) -> Result<(
     Ok(())
 }
 
-/// The cells of child `j` in a run of structs: nulls where the structs are null.
+/// The cells of child `j` in a run of structs that are all null or all valid: nulls where the structs are null.
 fn run_part<'a>(range: &SlotRange<'a>, j: usize, at: usize, end: usize) -> Segment<'a>
     requires structs { HasChild Struct j range.now }
     requires start { range.now.from ≤ at }
@@ -185,7 +185,7 @@ fn push_below_nulls<'a>(
     }
 }
 
-/// Appends the cells that child `j` has in a piece.
+/// Appends the cells that child `j` has in a segment.
 fn push_child<'a>(
     all: &mut Vec<Segment<'a>>,
     layout: Layout,

@@ -1,4 +1,4 @@
-//! Cells of arrays with a dictionary, as references to the values that their indices stand for.
+//! Cells of arrays with a dictionary, as references to the values to which their indices refer.
 
 ghost use Rattle.std.specs.Prelude.{
   ◌≡◌,
@@ -124,8 +124,8 @@ pub(crate) fn value_in<'a>(
     }
 }
 
-/// All values that the slots of an array stand for, as one slice, and the width of the indices; `None` where the values
-/// don't lie in one part.
+/// All values to which the slots of an array may refer, as one slice, and the width of the indices; `None` where the
+/// values don't lie in one slice.
 pub(crate) fn indexed_by<'a>(
     range: &SlotRange,
     dictionary: &'a DictionaryValues,
@@ -233,7 +233,7 @@ fn push_nulls(cells: &mut Vec<Option<&Value>>, count: usize) -> Result<(), Alloc
     Ok(())
 }
 
-/// Appends a reference for each cell of a piece.
+/// Appends a reference for each cell of a segment.
 fn push_segment<'a>(
     cells: &mut Vec<Option<&'a Value>>,
     segment: &Segment<'a>,

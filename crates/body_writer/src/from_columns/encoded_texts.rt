@@ -1,4 +1,4 @@
-//! Texts or bytes of arrays with a dictionary, as slices of the values that their indices stand for.
+//! Texts or bytes of arrays with a dictionary, as slices of the values to which their indices refer.
 
 ghost use Rattle.std.specs.Prelude.{◌≡◌, ◌<◌, ◌≤◌, ◌++◌, All, IfOk, OnOk, Some, map, replicate};
 ghost use Rattle.values.specs.Datum.{null};
@@ -132,7 +132,7 @@ fn push_nulls(texts: &mut Vec<Option<&[u8]>>, count: usize) -> Result<(), AllocE
     Ok(())
 }
 
-/// Appends the bytes of each cell of a piece.
+/// Appends the bytes of each cell of a segment.
 fn push_segment<'a>(
     texts: &mut Vec<Option<&'a [u8]>>,
     segment: &Segment<'a>,

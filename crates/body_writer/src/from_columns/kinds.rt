@@ -1,5 +1,5 @@
 //! Which columns are written from where their cells lie: those whose arrays are all of one form, with dictionaries at
-//! the same places, and of the layout that is written where they have none.
+//! the same nodes, and of the layout that is written where they have none.
 
 ghost use Rattle.std.specs.Prelude.{◌≡◌, true, All, IfSome};
 ghost use Rattle.values.specs.Rose.{Rose, node, kids_of};
@@ -75,7 +75,7 @@ fn all_lie(layouts: &[LayoutTree], models: &[Array], arrays: &[Array]) -> bool
     ) && all_lie(layouts, models, arrays)
 }
 
-/// Whether the array of a piece is of the model's form; nulls are of any.
+/// Whether the array of a segment is of the model's form; nulls are of any.
 fn lies_as(segment: &Segment, layout: &LayoutTree, model: ColumnParts) -> bool
     requires { OfSlots HasWidth segment.now }
     ensures { result ≡ true → LiesAs layout.now (array_of model.entry) segment.now }
@@ -93,7 +93,7 @@ fn lies_as(segment: &Segment, layout: &LayoutTree, model: ColumnParts) -> bool
     }
 }
 
-/// Whether the arrays of all these pieces are.
+/// Whether the arrays of all these segments are.
 fn all_lie_as(segments: &[Segment], layout: &LayoutTree, model: ColumnParts) -> bool
     requires { All (OfSlots HasWidth) segments.now }
     ensures { result ≡ true → All (LiesAs layout.now (array_of model.entry)) segments.now }
@@ -106,7 +106,7 @@ fn all_lie_as(segments: &[Segment], layout: &LayoutTree, model: ColumnParts) -> 
     true
 }
 
-/// The array of a piece, if it is of slots.
+/// The array of a segment, if it is of slots.
 fn array_of<'a>(segment: &Segment<'a>) -> Option<ColumnParts<'a>>
     ensures { IfSome result (λ a. (t : Rose Layouts) (m : Rose Arrays) → LiesAs t m segment.now → Lies t m (array_of a)) }
 {
@@ -116,7 +116,7 @@ fn array_of<'a>(segment: &Segment<'a>) -> Option<ColumnParts<'a>>
     }
 }
 
-/// The array of the first of these pieces that is of slots.
+/// The array of the first of these segments that is of slots.
 fn first_array<'a>(segments: &[Segment<'a>]) -> Option<ColumnParts<'a>>
     ensures { IfSome result (λ a. (t : Rose Layouts) (m : Rose Arrays) → All (LiesAs t m) segments.now
         → Lies t m (array_of a)) }
@@ -130,7 +130,7 @@ fn first_array<'a>(segments: &[Segment<'a>]) -> Option<ColumnParts<'a>>
     None
 }
 
-/// An array of the form that those of all these pieces have, if they have one form.
+/// An array whose form those of all these segments have, if they have one form.
 pub(crate) fn model_of<'a>(segments: &[Segment<'a>], layout: &LayoutTree) -> Option<ColumnParts<'a>>
     requires { All (OfSlots HasWidth) segments.now }
     ensures model { IfSome result (λ m. Lies layout.now (array_of m) (array_of m)) }

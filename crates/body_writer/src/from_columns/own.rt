@@ -1,4 +1,4 @@
-//! Writes an array's own node and buffers, without those of its children, from the pieces in which its cells lie.
+//! Writes an array's own node and buffers, without those of its children, from the segments in which its cells lie.
 
 ghost use Rattle.std.specs.Prelude.{◌≡◌, ◌<◌, ◌≤◌, ◌++◌, All, IfOk, OnOk, [], ◌∷◌, length};
 ghost use Rattle.std.specs.List.{flat_map};

@@ -14,7 +14,7 @@ use std::alloc::{AllocError, Global};
 use values::LayoutTree;
 
 /// The body of a record batch of the cells of these rows in the columns at these positions, which have these layouts.
-/// No other column is read. Room for `room` bytes of it is made at once.
+/// No other column is read. Capacity for `room` bytes of it is reserved at once.
 #[tactic(auto, using(crate::proofs::Rows::batch), unfolding(crate::specs::Batch::body_nodes, crate::specs::Batch::body_ranges, crate::specs::Batch::body_bytes))]
 pub fn write_body_from_picked_columns(
     alloc: Global,

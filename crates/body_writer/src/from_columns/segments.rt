@@ -1,4 +1,4 @@
-//! Appends the cells of one piece to the buffers of its column.
+//! Appends the cells of one segment to the buffers of its column.
 
 ghost use Rattle.std.specs.Prelude.{◌≡◌, ℕ, ◌+◌, ◌<◌, ◌≤◌, ◌++◌, ◌^◌, List, IfOk, OnOk, false, length, map, replicate};
 ghost use Rattle.std.specs.List.{flat_map};
@@ -19,7 +19,7 @@ use bitmaps::Bitmap;
 use std::alloc::{AllocError, Global};
 use values::{Layout, OffsetWidth};
 
-/// How many cells a piece has.
+/// How many cells a segment has.
 #[tactic(auto, using(crate::proofs::NullLemmas::null_laws))]
 pub(crate) fn cells_in(segment: &Segment) -> usize
     requires { OfSlots IsChecked segment.now }
@@ -31,7 +31,7 @@ pub(crate) fn cells_in(segment: &Segment) -> usize
     }
 }
 
-/// How many cells of a piece are null.
+/// How many cells of a segment are null.
 #[tactic(auto, using(crate::proofs::NullLemmas::null_laws))]
 pub(crate) fn segment_nulls(segment: &Segment) -> usize
     requires { OfSlots IsPlain segment.now }
@@ -53,7 +53,7 @@ fn push_clear(bits: &mut Bitmap, count: usize) -> Result<(), AllocError>
     Ok(())
 }
 
-/// Appends the validity of a piece: a bit a cell, 1 where it isn't null.
+/// Appends the validity of a segment: a bit a cell, 1 where it isn't null.
 pub(crate) fn push_segment_validity(valid: &mut Bitmap, segment: &Segment) -> Result<(), AllocError>
     requires plain { OfSlots IsPlain segment.now }
     requires room { length valid.old + length (segment_cells segment.now) < 2 ^ 32 }
@@ -65,7 +65,7 @@ pub(crate) fn push_segment_validity(valid: &mut Bitmap, segment: &Segment) -> Re
     }
 }
 
-/// Appends the bools of a piece: a bit a cell, 0 for a null.
+/// Appends the bools of a segment: a bit a cell, 0 for a null.
 pub(crate) fn push_segment_truths(
     alloc: Global,
     truths: &mut Bitmap,
@@ -92,7 +92,7 @@ fn push_null_slots(out: &mut Vec<u8>, layout: Layout, count: usize) -> Result<()
     Ok(())
 }
 
-/// Appends the bytes of a piece's cells, which are of a fixed width: zeros for a null.
+/// Appends the bytes of a segment's cells, which are of a fixed width: zeros for a null.
 pub(crate) fn push_segment_slots(
     out: &mut Vec<u8>,
     layout: Layout,
@@ -107,7 +107,7 @@ pub(crate) fn push_segment_slots(
     }
 }
 
-/// Appends the bytes of a piece's texts or bytes.
+/// Appends the bytes of a segment's texts or bytes.
 #[tactic(auto, using(crate::proofs::NullLemmas::null_laws))]
 pub(crate) fn push_segment_bytes(out: &mut Vec<u8>, segment: &Segment) -> Result<(), AllocError>
     requires { OfSlots HasRuns segment.now }
@@ -136,8 +136,8 @@ fn push_same(
     Ok(())
 }
 
-/// Appends the offsets at which a piece's texts, bytes or lists start, the first at `start`, and returns where the last
-/// one ends.
+/// Appends the offsets at which a segment's texts, bytes or lists start, the first at `start`, and returns where the
+/// last one ends.
 pub(crate) fn push_segment_starts(
     out: &mut Vec<u8>,
     segment: &Segment,

@@ -35,7 +35,7 @@ fn slot_range(bytes: &[u8], width: usize, from: usize, to: usize) -> &[u8]
     &bytes[width * from..width * to]
 }
 
-/// Puts zeros in the place of the `len` bytes from `from` on.
+/// Overwrites the `len` bytes from `from` on with zeros.
 fn clear(bytes: &mut Vec<u8>, from: usize, len: usize)
     requires { from + len ≤ length bytes.old.items }
     ensures { bytes.new.items ≡ take from bytes.old.items ++ (replicate len 0 ++ drop (from + len) bytes.old.items) }
@@ -43,7 +43,8 @@ fn clear(bytes: &mut Vec<u8>, from: usize, len: usize)
     bytes[from..from + len].fill(0);
 }
 
-/// Appends the bytes of the range's slots: all are copied at once, and then zeros put in the place of each run of nulls.
+/// Appends the bytes of the range's slots: all are copied at once, and then each run of nulls is overwritten with
+/// zeros.
 pub(crate) fn push_slots(out: &mut Vec<u8>, range: &SlotRange) -> Result<(), AllocError>
     requires checked { IsChecked range.now }
     requires plain { range.now.parts.own.now.dictionary ≡ None }

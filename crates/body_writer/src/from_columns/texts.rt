@@ -1,4 +1,4 @@
-//! Writes texts or bytes of known places, each from a slice of it. `None` is a null.
+//! Writes texts or bytes, each from a slice. `None` is a null.
 
 ghost use Rattle.std.specs.Prelude.{◌≡◌, ◌<◌, ◌≤◌, ◌++◌, IfOk, OnOk, [], ◌∷◌, length};
 ghost use Rattle.bitmaps.specs.Packed.{bytes_of};

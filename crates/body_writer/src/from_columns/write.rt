@@ -50,7 +50,7 @@ fn write_copies(
     write_column_from_values(alloc, layout, &cells, body)
 }
 
-/// Appends the column of these texts or bytes, which stand for values of dictionaries, from slices of the values.
+/// Appends the column of these texts or bytes, which are indices into dictionaries, from slices of the values.
 fn write_encoded_texts(
     alloc: Global,
     width: OffsetWidth,
@@ -67,7 +67,7 @@ fn write_encoded_texts(
     write_texts(alloc, width, &texts, body)
 }
 
-/// Appends the column of these cells, which stand for values of dictionaries, from references to the values.
+/// Appends the column of these cells, which are indices into dictionaries, from references to the values.
 fn write_encoded_values(
     alloc: Global,
     layout: &LayoutTree,
@@ -85,7 +85,7 @@ fn write_encoded_values(
     write_column_from_values(alloc, layout, &cells, body)
 }
 
-/// Appends the column of these cells, which stand for values of dictionaries.
+/// Appends the column of these cells, which are indices into dictionaries.
 fn write_encoded(
     alloc: Global,
     layout: &LayoutTree,
@@ -141,8 +141,8 @@ fn write_children(
     Ok(())
 }
 
-/// Appends the column whose cells lie in these pieces, with its children. Their arrays are of the form of `model`, with
-/// `models` below it.
+/// Appends the column whose cells lie in these segments, with its children. Their arrays are of the form of `model`,
+/// with `models` below it.
 #[cycle(column)]
 pub(crate) fn write_segments(
     alloc: Global,
@@ -198,8 +198,8 @@ pub(crate) fn write_column(
     }
 }
 
-/// The body of a record batch of these rows, in columns of these layouts: the body of the rows' values, though no values
-/// are made. Room for `room` bytes of it is made at once.
+/// The body of a record batch of these rows, in columns of these layouts: the same as that of the rows' values, but no
+/// values are made. Capacity for `room` bytes of it is reserved at once.
 #[tactic(auto, using(crate::proofs::Rows::batch), unfolding(crate::specs::Batch::body_nodes, crate::specs::Batch::body_ranges, crate::specs::Batch::body_bytes))]
 pub fn write_body_from_columns(
     alloc: Global,

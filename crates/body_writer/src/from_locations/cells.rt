@@ -1,4 +1,4 @@
-//! Single cells of rows at places: where they lie, or copies of them.
+//! Single cells of rows at locations: where they lie, or copies of them.
 
 ghost use Rattle.std.specs.Prelude.{◌≡◌, ℕ, ◌+◌, ◌<◌, All, IfOk, [], ◌∷◌, get_or};
 ghost use Rattle.values.specs.Datum.{null};
@@ -25,7 +25,7 @@ fn one_row<'a>(batch: &'a Batch, row: usize) -> Result<RowRange<'a>, AllocError>
     })
 }
 
-/// Where the cell of column `j` of the row at a place lies; a null where there is no such batch.
+/// Where the cell of column `j` of the row at a location lies; a null where there is no such batch.
 fn segment_at<'a>(
     batches: &[&'a Batch],
     place: &RowLocation,
@@ -60,7 +60,7 @@ pub(crate) fn segments_at<'a>(
     Ok(segments)
 }
 
-/// A copy of the cell in column `j` of the row at a place; a null where there is no such batch.
+/// A copy of the cell in column `j` of the row at a location; a null where there is no such batch.
 pub fn copy_cell(
     alloc: Global,
     batches: &[&Batch],

@@ -1,4 +1,4 @@
-//! Gathers the cells of a column place by place.
+//! Gathers the cells of a column location by location.
 
 ghost use Rattle.std.specs.Prelude.{◌≡◌, ◌+◌, ◌<◌, ◌≤◌, ◌++◌, All, IfOk, OnOk, length, map};
 ghost use Rattle.std.specs.List.{flat_map};

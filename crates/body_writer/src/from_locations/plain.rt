@@ -33,7 +33,7 @@ pub struct BatchArrays<'a> {
     pub(crate) column: usize,
     pub(crate) layout: Layout,
     pub(crate) is_plain: bool,
-    /// Those of the batches in turn; none for a batch without this column.
+    /// Those of the batches, in order; none for a batch without this column.
     pub(crate) arrays: Vec<Option<PlainArray<'a>>>,
 }
 
@@ -77,7 +77,7 @@ fn plain_array<'a>(column: &'a Column, layout: Layout) -> Option<PlainArray<'a>>
     plain_of(column.parts(), layout)
 }
 
-/// The array of column `j` of a batch, if it is plain. A batch without such a column has `Some(None)`.
+/// The array of column `j` of a batch, if it is plain. For a batch without such a column it is `Some(None)`.
 fn array_in<'a>(batch: &'a Batch, j: usize, layout: Layout) -> Option<Option<PlainArray<'a>>>
     ensures { IfSome result (λ found. (c : CheckedColumn) → slice_get batch.now.columns.items j ≡ Some c
         → HasCellsAt layout c.cells (Some found)) }

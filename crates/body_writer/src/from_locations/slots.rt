@@ -1,4 +1,4 @@
-//! Single slots of arrays without a dictionary, found by places.
+//! Single slots of arrays without a dictionary, found by locations.
 
 ghost use Rattle.std.specs.Prelude.{◌≡◌, ◌++◌, MatchOption, OnOk};
 ghost use Rattle.values.specs.Datum.{null};
@@ -15,7 +15,7 @@ use crate::from_locations::plain::PlainArray;
 use array_layout::{bit, fixed, is_null_at, slice};
 use std::alloc::AllocError;
 
-/// The array in which the slot at a place lies, if there is one.
+/// The array in which the slot at a location lies, if there is one.
 #[inline(always)]
 fn array_at<'a, 'b>(
     arrays: &'b [Option<PlainArray<'a>>],
@@ -31,7 +31,7 @@ fn array_at<'a, 'b>(
     }
 }
 
-/// Whether the slot at a place is there, and isn't null.
+/// Whether there is a slot at a location, and it isn't null.
 #[inline(always)]
 pub(crate) fn is_valid_at(arrays: &[Option<PlainArray>], place: &RowLocation) -> bool
     requires { (l : Layouts) × Fits l arrays.now place.now }
@@ -43,7 +43,7 @@ pub(crate) fn is_valid_at(arrays: &[Option<PlainArray>], place: &RowLocation) ->
     }
 }
 
-/// The bool in the slot at a place; false for a null.
+/// The bool in the slot at a location; false for a null.
 #[inline(always)]
 pub(crate) fn truth_at(arrays: &[Option<PlainArray>], place: &RowLocation) -> bool
     requires { Fits Booleans arrays.now place.now }
@@ -67,7 +67,7 @@ fn text_in<'a>(array: &PlainArray<'a>, i: usize) -> Option<&'a [u8]>
     Some(slice(array.offsets, array.values, array.slots.offsets, i))
 }
 
-/// The text or the bytes in the slot at a place; `None` for a null.
+/// The text or the bytes in the slot at a location; `None` for a null.
 #[inline(always)]
 pub(crate) fn text_at<'a>(
     arrays: &[Option<PlainArray<'a>>],
@@ -101,7 +101,7 @@ fn push_slot(
     Ok(())
 }
 
-/// Appends the `width` bytes of the slot at a place: zeros for a null, and where there is no array.
+/// Appends the `width` bytes of the slot at a location: zeros for a null, and where there is no array.
 #[inline(always)]
 pub(crate) fn push_slot_at(
     out: &mut Vec<u8>,

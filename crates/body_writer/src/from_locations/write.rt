@@ -1,4 +1,4 @@
-//! Writes columns of rows that lie each at a place of its own.
+//! Writes columns of rows at single locations.
 
 ghost use Rattle.std.specs.Prelude.{◌≡◌, ℕ, ◌<◌, ◌≤◌, All, IfOk, List, OnOk, [], ◌∷◌, length, map, true};
 ghost use Rattle.std.specs.List.{flat_map};
@@ -50,7 +50,7 @@ use array_layout::FieldNode;
 use std::alloc::{AllocError, Global};
 use values::{Layout, LayoutTree, OffsetWidth};
 
-/// A column of rows that lie each at a place of its own, and the arrays in which its cells lie.
+/// A column of rows at single locations, and the arrays in which its cells lie.
 #[derive(Clone, Copy)]
 pub struct LocatedColumn<'a> {
     pub arrays: &'a BatchArrays<'a>,
@@ -265,7 +265,7 @@ fn write_located(
 }
 
 /// The body of a record batch of these columns, which have these layouts and as many cells each. No other column of the
-/// batches is read. Room for `room` bytes of it is made at once.
+/// batches is read. Capacity for `room` bytes of it is reserved at once.
 pub fn write_body_from_locations(
     alloc: Global,
     layouts: &[LayoutTree],

@@ -153,7 +153,7 @@ fn write_children(
 /// Appends the column of these cells: its nodes, and its buffers, each with zeros up to a multiple of 8. `None` is a
 /// null cell, as below a null struct.
 ///
-/// Where memory runs out the body may hold a part of the column, and is of no further use.
+/// Where memory is refused the body may hold a part of the column, and must not be used.
 #[cycle(column)]
 pub fn write_column_from_values(
     alloc: Global,

@@ -1,4 +1,4 @@
-//! Reads from a cell what its column stores: a bit, a number, bytes, a length, a child cell.
+//! Reads from a cell what its column stores of it: a bit, a number, bytes, a length, a child cell.
 
 ghost use Rattle.std.specs.Prelude.{◌≡◌};
 ghost use Rattle.body_writer.specs.Slots.{

@@ -24,7 +24,7 @@ use values::{Cause, StreamFault};
 pub struct Inspected {
     /// A line for each message and each column, and a last one for the end of the input or the refusal.
     pub text: String,
-    /// 0 where no fault stands in the stream, else 1.
+    /// 0 where the stream has no fault, else 1.
     pub status: u8,
 }
 
@@ -63,8 +63,8 @@ impl Inspection {
         Ok(fed.used)
     }
 
-    /// Takes the first message of a piece, or all of the piece where it ends before the message does, and returns how
-    /// many bytes were used. What is said holds whatever bytes come after the piece.
+    /// Consumes the first message of a piece, or all of the piece where it ends before the message does, and returns
+    /// how many bytes were used. The contract holds whatever bytes come after the piece.
     fn take(&mut self, piece: &[u8]) -> Result<usize, StreamFault>
         requires open { IsOpen self.old }
         requires some { 0 < length piece.now }
@@ -82,7 +82,7 @@ impl Inspection {
         Ok(self.note(fed)?)
     }
 
-    /// Takes all messages of a piece, and what it has of one more.
+    /// Consumes all messages of a piece, and what it has of one more.
     fn take_all(&mut self, piece: &[u8]) -> Result<(), StreamFault>
         requires open { IsOpen self.old }
         ensures open { OnOk result (IsOpen self.new) }
@@ -99,7 +99,7 @@ impl Inspection {
         Ok(())
     }
 
-    /// Takes all messages of a source.
+    /// Consumes all messages of a source.
     fn take_source<R: Read>(
         &mut self,
         alloc: Global,
@@ -147,7 +147,7 @@ impl Inspection {
         self.end()
     }
 
-    /// Takes the whole stream of a source, and writes the line of its end.
+    /// Consumes the whole stream of a source, and writes the line of its end.
     fn run_from<R: Read>(
         &mut self,
         alloc: Global,
@@ -173,8 +173,8 @@ fn write_refusal(text: &mut String, fault: StreamFault) -> Result<(), AllocError
     writeln!(text, "refused {number} {name}")
 }
 
-/// What was told of a stream, by the lines that were written of it and how taking it ended. The error is want of
-/// memory.
+/// The description of a stream, from the lines that were written of it and the result of consuming it. The error is
+/// want of memory.
 fn told(mut text: String, ran: Result<(), StreamFault>) -> Result<Inspected, AllocError>
     ensures { IfOk result (λ i. (input : List ℕ) → HasRun (string_bytes text) ran input
         → ReportsAccount (account_of input) (string_bytes i.text) i.status) }
@@ -193,7 +193,7 @@ fn told(mut text: String, ran: Result<(), StreamFault>) -> Result<Inspected, All
 
 /// Describes each message of a whole stream.
 ///
-/// Where a fault stands, the lines of the messages before it come first. The limits on rows and on their weights, 44
+/// Where there is a fault, the lines of the messages before it come first. The limits on rows and on their weights, 44
 /// and 45, are not checked. The error is want of memory.
 pub fn inspect(alloc: Global, input: &[u8]) -> Result<Inspected, AllocError>
     ensures tells { IfOk result (λ i. ReportsAccount (account_of input.now) (string_bytes i.text) i.status) }
@@ -209,7 +209,7 @@ pub fn inspect(alloc: Global, input: &[u8]) -> Result<Inspected, AllocError>
 
 /// Describes each message of the whole stream that a source holds, as [`inspect`] does, reading it piece by piece.
 ///
-/// The error is a source that can't be read, or want of memory. Where a fault stands, the rest of the source may be
+/// The error is a source that can't be read, or want of memory. Where there is a fault, the rest of the source may be
 /// left unread.
 pub fn inspect_from<R: Read>(alloc: Global, source: &mut R) -> Result<Inspected, FileFault>
     ensures { IfOk result (λ i. InspectsFile (R.remaining source.old) (string_bytes i.text) i.status) }

@@ -1,6 +1,6 @@
 //! The commands of `lv`, each a module of its own: the words that ask for it, what it does, and what it prints. The
-//! usage, the completions and the tables of the pages are made of the heads of these modules, in the order in which
-//! `syntax` has them, by `tools/makers/command_tables.py`.
+//! usage, the completions and the tables of the pages are generated from the heads of these modules, in the order in
+//! which `syntax` has them, by `tools/makers/command_tables.py`.
 
 ghost use Rattle.std.specs.Prelude.{◌≡◌, ◌≤◌, ◌⊎◌, IfErr, IfOk, true};
 ghost use Rattle.liveviews.specs.Program.{AsksSession, Begins, IsBegun, Succeeds};

@@ -46,7 +46,8 @@ impl fmt::Display for Explained<'_> {
     }
 }
 
-/// Tells where the configuration in the file at `path` is refused, whose bytes these are, and what the cause says.
+/// Reports where in the configuration in the file at `path`, whose bytes these are, the refused part is, and what the
+/// cause says.
 fn explain<F: Files>(alloc: Global, path: &str, bytes: &[u8], cause: Cause, files: &mut F)
     ensures sunk { F.sunk files.new ≡ F.sunk files.old }
     ensures content { F.content files.new ≡ F.content files.old }
@@ -58,7 +59,7 @@ fn explain<F: Files>(alloc: Global, path: &str, bytes: &[u8], cause: Cause, file
     files.remark(Explained { path, place, cause });
 }
 
-/// Reads the configuration at `path`. Where it is refused, the files are told where and why.
+/// Reads the configuration at `path`. Where it is refused, where and why is reported through the files.
 pub(crate) fn read_config_file<'a, F: Files>(
     alloc: Global,
     path: &'a str,

@@ -1,4 +1,4 @@
-//! Takes a stream message by message.
+//! Consumes a stream message by message.
 
 ghost use Rattle.std.specs.Prelude.{◌≡◌, ◌≤◌, ◌<◌, ◌++◌, IfErr, IfOk, IfSome, OnOk, None, drop, length};
 ghost use Rattle.stream_writer.specs.Weights.{HasSizes};
@@ -10,17 +10,17 @@ use feed::{Fed, Feed, FeedEvent, cut_law, story_law};
 use messages::first_message_law;
 use values::Cause;
 
-/// What became of a piece: so many of its first bytes were used, and the message that ends there is a batch, or it is
-/// none, or no message ends within the piece.
+/// What came of a piece: how many of its first bytes were used, and that the message that ends there is a batch, or
+/// another message, or that no message ends within the piece.
 #[derive(Drop)]
 pub(crate) struct NextMessage {
     pub used: usize,
     pub batch: Option<Batch>,
 }
 
-/// Takes the first message of a piece, or all of the piece where it ends before the message does.
+/// Consumes the first message of a piece, or all of the piece where it ends before the message does.
 ///
-/// What it says is said of any stream of which these rows were taken, whatever bytes come after the piece.
+/// The contract holds for any stream from which these rows were read, whatever bytes come after the piece.
 pub(crate) fn next_message(feed: &mut Feed, piece: &[u8]) -> Result<NextMessage, Cause>
     requires open { IsOpen feed.old }
     requires some { 0 < length piece.now }

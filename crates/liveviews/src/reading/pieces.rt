@@ -7,16 +7,16 @@ use crate::files::FileFault;
 use std::alloc::{AllocError, Global};
 use std::io::{ErrorKind, Read};
 
-/// How long the room is at first, and how much it grows at least.
+/// The initial length of the buffer, and the least by which it grows.
 const ROOM_LEN: usize = 1 << 20;
 
-/// How many bytes a piece has at most that isn't the rest of a message.
+/// The greatest length of a piece that isn't the rest of a message.
 const PIECE_LEN: usize = 1 << 16;
 
-/// How many bytes of a message are missing at least where its rest is read by itself.
+/// How many bytes of a message must be missing for its rest to be read by itself.
 const LEAST_REST: usize = 1 << 13;
 
-/// Makes the room that pieces of a source are read into.
+/// Makes the buffer that pieces of a source are read into.
 pub(crate) fn room(alloc: Global) -> Result<Vec<u8>, AllocError>
     ensures { IfOk result (λ room. 0 < length room.items) }
 {
@@ -31,7 +31,7 @@ pub(crate) fn read_piece<R: Read>(source: &mut R, room: &mut [u8]) -> Result<usi
         (λ n. Consumes (R.remaining source.old) (R.remaining source.new) (take n room.new)) }
     ensures end { IfOk result (λ n. n ≡ 0 → 0 < length room.old → IsAtEnd (R.remaining source.new)) }
 {
-    // A read that a signal interrupts takes nothing, and is tried again.
+    // A read that a signal interrupts reads nothing, and is tried again.
     for _ in 0..u64::MAX {
         match source.read(room) {
             Ok(len) => return Ok(len),
@@ -45,7 +45,7 @@ pub(crate) fn read_piece<R: Read>(source: &mut R, room: &mut [u8]) -> Result<usi
     Err(FileFault::Unusable)
 }
 
-/// Makes the room as long as `len`, where it is shorter.
+/// Makes the buffer as long as `len`, where it is shorter.
 fn lengthen(room: &mut Vec<u8>, len: usize) -> Result<(), AllocError>
     ensures long { OnOk result (len ≤ length room.new.items) }
     ensures same { OnOk result (take (length room.old.items) room.new.items ≡ room.old.items) }
@@ -56,7 +56,7 @@ fn lengthen(room: &mut Vec<u8>, len: usize) -> Result<(), AllocError>
     Ok(())
 }
 
-/// Reads the next bytes of a source to `room` from place `from` up to `end`, and returns how many.
+/// Reads the next bytes of a source to `room` from index `from` up to `end`, and returns how many.
 fn read_between<R: Read>(
     source: &mut R,
     room: &mut [u8],
@@ -75,8 +75,8 @@ fn read_between<R: Read>(
     Ok(count)
 }
 
-/// Reads the next bytes of a source behind the first `len` of `room`, of which `most` are wanted in all, and returns how
-/// many. The room grows by as much as is there.
+/// Reads the next bytes of a source behind the first `len` of `room`, of which `most` are wanted in all, and returns
+/// how many. The buffer grows by as much as was read.
 fn read_behind<R: Read>(
     source: &mut R,
     room: &mut Vec<u8>,
@@ -99,7 +99,7 @@ fn read_behind<R: Read>(
     Ok(count)
 }
 
-/// Reads the next `most` bytes of a source to the front of `room`, or all that are left, and returns how many.
+/// Reads the next `most` bytes of a source to the front of `room`, or all that remain, and returns how many.
 fn read_all<R: Read>(source: &mut R, room: &mut Vec<u8>, most: usize) -> Result<usize, FileFault>
     ensures within { IfOk result (λ n. n ≤ length room.new.items) }
     ensures took { IfOk result
@@ -154,7 +154,7 @@ pub(crate) fn read_at_most<R: Read>(
     read_piece(source, &mut room[..most])
 }
 
-/// Reads past the next `len` bytes of a source. Returns how many of them it hasn't.
+/// Skips the next `len` bytes of a source. Returns how many of them the source lacks.
 pub(crate) fn skip<R: Read>(source: &mut R, len: u64, room: &mut [u8]) -> Result<u64, FileFault>
     ensures { IfOk result (λ n. n ≤ len) }
 {

@@ -1,4 +1,4 @@
-//! The batches that were taken of a stream.
+//! The batches that were read from a stream.
 
 ghost use Rattle.std.specs.Prelude.{◌≡◌, ◌++◌, All, IfErr, OnOk, [], length};
 ghost use Rattle.schema_meta.specs.Rows.{rows_in};
@@ -19,7 +19,7 @@ use stream_writer::{Sink, WriteFault, weights_in, write_batches, write_weighed_b
 use values::limits::MAX_MAIN_ROWS;
 use values::{Cause, Schema};
 
-/// The batches of a stream so far, with the number of their rows, and a weight that none of the rows is above.
+/// The batches of a stream so far, the number of their rows, and an upper bound on the weights of these rows.
 #[derive(Drop)]
 pub(crate) struct BufferedBatches {
     pub batches: Vec<Batch>,

@@ -1,4 +1,4 @@
-//! Recasts a file to another, whose place a new one takes when it is whole.
+//! Recasts a file to another, which a new file replaces when it is whole.
 
 ghost use Rattle.std.specs.Prelude.{◌≡◌, ℕ, List, OnErr, OnOk, Option};
 ghost use Rattle.std.specs.Io.KnownBytes.{Appends};
@@ -16,8 +16,8 @@ use std::alloc::Global;
 use stream_writer::DeviceFault;
 use values::Cause;
 
-/// Recasts the file at `from` to the file at `to`: to a new file that takes its place, where one can, and else to the
-/// file itself.
+/// Recasts the file at `from` to the file at `to`: to a new file that replaces it, where one can, and else to the file
+/// itself.
 pub(crate) fn recast_file<'a, F: Files>(
     alloc: Global,
     from: &'a str,
@@ -36,9 +36,8 @@ pub(crate) fn recast_file<'a, F: Files>(
 }
 
 /// Recasts an input, which is the file at `from`, to a new file while it is read, as
-/// [`recast_through`](crate::recast_through) does. The new file, which [`Files::begin_new`] began for `to`, takes the
-/// place of the one there when all was accepted and put, and is thrown away otherwise: then each file holds what it
-/// held.
+/// [`recast_through`](crate::recast_through) does. The new file, which [`Files::begin_new`] began for `to`, replaces
+/// the one there when all was accepted and put, and is discarded otherwise: then each file holds what it held.
 pub fn recast_to_new<'a, F: Files>(
     alloc: Global,
     input: &mut F::Input,

@@ -87,7 +87,7 @@ fn begin_writer<S: Sink>(
 }
 
 impl Streaming {
-    /// The fault of a cause that stands where no put failed.
+    /// The fault of a cause that is found where no put failed.
     fn fault(&self, cause: Cause) -> RecastFault
         ensures { result ≡ record { cause = cause; written = written_by self.now.writer } }
     {
@@ -98,7 +98,7 @@ impl Streaming {
         RecastFault { cause, written }
     }
 
-    /// Takes out the writer, which it begins where there is none yet.
+    /// Moves the writer out, which it begins where there is none yet.
     fn writer<S: Sink>(
         &mut self,
         alloc: Global,
@@ -117,7 +117,7 @@ impl Streaming {
         }
     }
 
-    /// Takes a batch: `TooManyRows` where there would be too many, `CellTooHeavy` where one is too heavy.
+    /// Accepts a batch: `TooManyRows` where there would be too many, `CellTooHeavy` where one is too heavy.
     fn take<S: Sink>(
         &mut self,
         alloc: Global,
@@ -150,8 +150,8 @@ impl Streaming {
     }
 }
 
-/// Takes the first message of a piece, or all of the piece where it ends before the message does, and returns how many
-/// bytes were used.
+/// Consumes the first message of a piece, or all of the piece where it ends before the message does, and returns how
+/// many bytes were used.
 fn take_message<S: Sink>(
     alloc: Global,
     feed: &mut Feed,
@@ -182,7 +182,7 @@ fn take_message<S: Sink>(
     Ok(used)
 }
 
-/// Takes all messages of a piece, and what it has of one more.
+/// Consumes all messages of a piece, and what it has of one more.
 fn take_messages<S: Sink>(
     alloc: Global,
     feed: &mut Feed,
@@ -207,7 +207,7 @@ fn take_messages<S: Sink>(
     Ok(())
 }
 
-/// Takes all messages of a source.
+/// Consumes all messages of a source.
 fn take_source<R: Read, S: Sink>(
     alloc: Global,
     feed: &mut Feed,
@@ -242,7 +242,7 @@ fn take_source<R: Read, S: Sink>(
     Err(SourceFault::Unreadable)
 }
 
-/// The fault of a source that can't be read further.
+/// The fault of a source that can't be read to its end.
 fn unread(streaming: &Streaming, fault: FileFault) -> SourceFault
     ensures { result ≡ unread_after (written_by streaming.now.writer) fault }
 {
@@ -252,7 +252,7 @@ fn unread(streaming: &Streaming, fault: FileFault) -> SourceFault
     }
 }
 
-/// Ends the input of a feed, and puts what is left of the canonical stream.
+/// Ends the input of a feed, and puts the rest of the canonical stream.
 fn finish<S: Sink>(
     alloc: Global,
     feed: &mut Feed,
@@ -279,12 +279,12 @@ fn finish<S: Sink>(
     Ok(written)
 }
 
-/// Recasts the whole stream that a source holds, as [`recast_from`](crate::recast_from) does, but puts it while it
-/// reads it: however long the stream is, it holds fewer than 1,024 rows, in the batches in which they came, and the
+/// Recasts the whole stream that a source holds, as [`recast_from`](crate::recast_from) does, but writes while it
+/// reads: however long the stream is, it buffers fewer than 1,024 rows, in the batches in which they came, and the
 /// dictionaries.
 ///
-/// Where the stream is refused, the sink took a beginning of a canonical stream, which is to be thrown away, and the
-/// rest of the source may be left unread.
+/// Where the stream is refused, the sink took a prefix of a canonical stream, which is to be discarded, and the rest of
+/// the source may be left unread.
 pub fn recast_through<R: Read, S: Sink>(
     alloc: Global,
     source: &mut R,
@@ -292,11 +292,11 @@ pub fn recast_through<R: Read, S: Sink>(
 ) -> Result<u64, SourceFault>
     ensures streams { StreamsSource (R.remaining source.old) (S.sunk sink.old) (S.sunk sink.new) result }
 
-    // On Ok no limit is passed either, as `recast` says it.
+    // On Ok no limit is exceeded either, as `recast` says it.
     ensures accepted { OnOk result (OfSource (R.remaining source.old)
         (λ input. IsConsumed (story_of input))) }
 {
-    // They do nothing: the proof takes from them that nothing is told before the first byte.
+    // They do nothing: the proof takes from them that nothing is reported before the first byte.
     first_message_law();
     story_law();
     let mut feed = Feed::open(alloc, None);

@@ -37,10 +37,10 @@ pub(crate) struct Table {
     pub rows: BufferedBatches,
 }
 
-/// Takes the first message of a piece, or all of the piece where it ends before the message does, and returns how many
-/// bytes were used.
+/// Consumes the first message of a piece, or all of the piece where it ends before the message does, and returns how
+/// many bytes were used.
 ///
-/// What it says is said of any stream of which these rows were taken, whatever bytes come after the piece.
+/// The contract holds for any stream from which these rows were read, whatever bytes come after the piece.
 fn take_message(feed: &mut Feed, piece: &[u8], rows: &mut BufferedBatches) -> Result<usize, Cause>
     requires open { IsOpen feed.old }
     requires some { 0 < length piece.now }
@@ -66,7 +66,7 @@ fn take_message(feed: &mut Feed, piece: &[u8], rows: &mut BufferedBatches) -> Re
     Ok(used)
 }
 
-/// Takes all messages of a piece, and what it has of one more.
+/// Consumes all messages of a piece, and what it has of one more.
 fn take_messages(feed: &mut Feed, piece: &[u8], rows: &mut BufferedBatches) -> Result<(), Cause>
     requires open { IsOpen feed.old }
     requires counted { IsCounted rows.old }
@@ -85,7 +85,7 @@ fn take_messages(feed: &mut Feed, piece: &[u8], rows: &mut BufferedBatches) -> R
     Ok(())
 }
 
-/// Takes all messages of a source.
+/// Consumes all messages of a source.
 fn take_source<R: Read>(
     alloc: Global,
     feed: &mut Feed,
@@ -120,13 +120,13 @@ pub(crate) fn end(feed: &mut Feed) -> Result<(), Cause>
     ensures refused { IfErr result (λ c. (s : Story) (rows : List (List Datum)) → Reached s feed.old rows []
         → Refuses s c) }
 {
-    // It does nothing: the proof takes from it what a stream tells that ends within a message.
+    // It does nothing: the proof takes from it what a stream means that ends within a message.
     story_law();
     feed.finish()?;
     Ok(())
 }
 
-/// The table of a stream that has ended, of which these rows were taken.
+/// The table of a stream that has ended, from which these rows were read.
 fn finish(alloc: Global, feed: &Feed, rows: BufferedBatches) -> Result<Table, Cause>
     ensures means { IfOk result (λ t. (s : Story) → IsComplete s feed.now (buffered_rows rows)
         → Means s t.schema.fields.items (buffered_rows t.rows)) }
@@ -147,7 +147,7 @@ fn finish(alloc: Global, feed: &Feed, rows: BufferedBatches) -> Result<Table, Ca
     Ok(Table { schema, rows })
 }
 
-/// The table of a stream of which all messages were taken.
+/// The table of a stream of which all messages were consumed.
 fn complete(alloc: Global, feed: &mut Feed, rows: BufferedBatches) -> Result<Table, Cause>
     requires open { IsOpen feed.old }
     requires counted { IsCounted rows }
@@ -168,8 +168,8 @@ fn complete(alloc: Global, feed: &mut Feed, rows: BufferedBatches) -> Result<Tab
 impl Table {
     /// Reads a whole stream: its columns, and the rows of all its batches.
     ///
-    /// The error is a fault of the stream, `TooManyRows` above 2^24 rows, `CellTooHeavy` or `Memory`.
-    /// Where several stand, any of them may come.
+    /// The error is a fault of the stream, `TooManyRows` above 2^24 rows, `CellTooHeavy` or `Memory`. Where several
+    /// apply, any of them is given.
     pub fn read(alloc: Global, input: &[u8]) -> Result<Table, Cause>
         ensures means { IfOk result (λ t. Means (story_of input.now) t.schema.fields.items (buffered_rows t.rows)) }
         ensures within { IfOk result (λ t. IsTable t.schema.fields.items (buffered_rows t.rows)) }
@@ -178,7 +178,7 @@ impl Table {
         ensures accepted { OnOk result (IsConsumed (story_of input.now)) }
         ensures refused { IfErr result (Refuses (story_of input.now)) }
     {
-        // They do nothing: the proof takes from them that nothing is told before the first byte.
+        // They do nothing: the proof takes from them that nothing is reported before the first byte.
         first_message_law();
         story_law();
         let mut feed = Feed::open(alloc, None);
@@ -187,7 +187,7 @@ impl Table {
         complete(alloc, &mut feed, rows)
     }
 
-    /// The table that the whole stream of a source means, which is read piece by piece, as [`Table::read`] says.
+    /// The table that the whole stream of a source means, read piece by piece, as [`Table::read`] says.
     ///
     /// The outer error is a source that can't be read, or want of memory.
     pub fn read_from<R: Read>(
@@ -199,7 +199,7 @@ impl Table {
         ensures counted { IfOk result (λ read. IfOk read (λ t. IsCounted t.rows)) }
         ensures kept { IfOk result (λ read. IfOk read (λ t. IsWritable t.schema.fields.items t.rows)) }
     {
-        // They do nothing: the proof takes from them that nothing is told before the first byte.
+        // They do nothing: the proof takes from them that nothing is reported before the first byte.
         first_message_law();
         story_law();
         let mut feed = Feed::open(alloc, None);

@@ -26,7 +26,7 @@ pub struct RecastFault {
     pub written: u64,
 }
 
-/// The fault of a cause that stands before anything is put.
+/// The fault of a cause that is found before anything is put.
 impl From<Cause> for RecastFault {
     ghost use Rattle.std.specs.Prelude.{◌≡◌};
 
@@ -84,13 +84,13 @@ impl From<FileFault> for SourceFault {
 
 /// Reads a whole stream, puts the canonical stream of its table, and returns how many bytes that has.
 ///
-/// The error is a fault of the stream, `TooManyRows`, `CellTooHeavy`, `Memory` or `Device`; where several stand, any of
+/// The error is a fault of the stream, `TooManyRows`, `CellTooHeavy`, `Memory` or `Device`; where several apply, any of
 /// them. Nothing is put before all of the input was accepted.
 #[tactic(auto, using(crate::proofs::Recasts::recasts))]
 pub fn recast<S: Sink>(alloc: Global, input: &[u8], sink: &mut S) -> Result<u64, RecastFault>
     ensures recasts { Recasts (S.sunk sink.old) (S.sunk sink.new) result (story_of input.now) }
 
-    // On Ok no limit is passed either: at most 2^24 rows, none too heavy.
+    // On Ok no limit is exceeded either: at most 2^24 rows, none too heavy.
     ensures accepted { OnOk result (IsConsumed (story_of input.now)) }
 {
     // It does nothing: the proof takes from it that what is written is read back.
@@ -100,7 +100,7 @@ pub fn recast<S: Sink>(alloc: Global, input: &[u8], sink: &mut S) -> Result<u64,
     Ok(written)
 }
 
-/// Puts the canonical stream of the table that was read of a stream, if one was.
+/// Puts the canonical stream of the table that was read from a stream, if one was.
 #[tactic(auto, using(crate::proofs::Recasts::puts))]
 fn put<S: Sink>(alloc: Global, read: Result<Table, Cause>, sink: &mut S) -> Result<u64, RecastFault>
     requires within { IfOk read (λ t. IsTable t.schema.fields.items (buffered_rows t.rows)) }
@@ -127,7 +127,7 @@ pub fn recast_from<R: Read, S: Sink>(
 ) -> Result<u64, SourceFault>
     ensures recasts { RecastsSource (R.remaining source.old) (S.sunk sink.old) (S.sunk sink.new) result }
 
-    // On Ok no limit is passed either, as `recast` says it.
+    // On Ok no limit is exceeded either, as `recast` says it.
     ensures accepted { OnOk result (OfSource (R.remaining source.old)
         (λ input. IsConsumed (story_of input))) }
 {

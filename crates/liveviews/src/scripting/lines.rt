@@ -10,7 +10,7 @@ pub(crate) enum Command<'a> {
         name: &'a str,
         path: &'a str,
     },
-    /// Pushes the `len` bytes of the file from place `from` on, or as many as it has.
+    /// Pushes the `len` bytes of the file from offset `from` on, or as many as it has.
     Piece {
         name: &'a str,
         path: &'a str,
@@ -58,7 +58,7 @@ pub(crate) fn read_line(line: &[u8]) -> Line<'_> {
     }
 }
 
-/// Reads a command, whose words are separated by single spaces; `None` where the text is none.
+/// Reads a command, whose words are separated by single spaces; `None` where the text isn't one.
 fn read_command(text: &str) -> Option<Command<'_>> {
     let mut words = text.split(' ');
     let verb = words.next()?;
@@ -131,7 +131,7 @@ pub(crate) enum LiveLine<'a> {
     Script(Line<'a>),
     /// Pushes the `len` bytes that follow the line on the input.
     Bytes { name: &'a str, len: u64 },
-    /// Writes a view to where answers go.
+    /// Writes a view to the output of the answers.
     Send { view: &'a str },
 }
 
@@ -145,7 +145,7 @@ pub(crate) fn read_live_line(line: &[u8]) -> LiveLine<'_> {
     LiveLine::Script(read_line(line))
 }
 
-/// Reads a command that a live session has and a script hasn't; `None` where the text is none.
+/// Reads a command that a live session has and a script hasn't; `None` where the text isn't one.
 fn read_live_command(text: &str) -> Option<LiveLine<'_>> {
     let mut words = text.split(' ');
     let verb = words.next()?;

@@ -10,8 +10,8 @@ use session::Session;
 use std::alloc::{AllocError, Global};
 use std::io::{BufRead, BufReader, BufWriter, Read, Write};
 
-/// Reads the next `len` bytes of the input and pushes them to a feed, until they are refused: what is left of them is
-/// read all the same. The error says that not all of them came.
+/// Reads the next `len` bytes of the input and pushes them to a feed, until they are refused: the rest of them is read
+/// all the same. The error says that the input had fewer.
 fn push_bytes<R: Read, W: Write>(
     run: &mut ScriptRunner,
     feed: &str,
@@ -46,7 +46,7 @@ fn run_line<F: Files, W: Write>(
     }
 }
 
-/// Does what a line says, and prints the answers. The error says that the input can't be read on.
+/// Does what a line says, and prints the answers. The error says that no more input can be read.
 fn answer<F: Files, R: Read, W: Write>(
     run: &mut ScriptRunner,
     line: &[u8],
@@ -73,8 +73,8 @@ fn next_line<R: BufRead>(input: &mut R, line: &mut Vec<u8>) -> Result<bool, File
     Ok(taken > 0)
 }
 
-/// Runs lines as they come, and prints the answers to each as `run` does. Behind them stands a line of the line's
-/// number and a full stop. A line that is wrong is answered and passed over.
+/// Runs lines as they come, and prints the answers to each as `run` does, followed by a line of the line's number and a
+/// full stop. A line that is wrong is answered and skipped.
 ///
 /// Returns the program's exit status: 1 where a line was wrong, a command was refused or a print failed, and 0
 /// otherwise. Where memory for reading and printing is refused, nothing is done.

@@ -84,7 +84,7 @@ impl<'a, F: Files> Sink for NamedFile<'a, F> {
     }
 }
 
-/// Which bytes of a file are pushed: at most `len`, from place `from` on.
+/// Which bytes of a file are pushed: at most `len`, from offset `from` on.
 #[derive(Clone, Copy, Debug)]
 struct Part {
     from: u64,
@@ -122,13 +122,13 @@ impl ScriptRunner {
         if self.is_clean { 0 } else { 1 }
     }
 
-    /// Prints an answer to the current line, and hands it on at once.
+    /// Prints an answer to the current line, and flushes it.
     pub(crate) fn print<W: Write>(&mut self, answer: Answer, out: &mut W) {
         let is_printed = tell(self.line, answer, out);
         self.is_clean = self.is_clean && is_printed && answer.is_done();
     }
 
-    /// Prints that all answers to the current line stand above. Returns whether it could.
+    /// Prints the line that ends the answers to the current line. Returns whether it could.
     pub(crate) fn print_end<W: Write>(&mut self, out: &mut W) -> bool {
         let line = self.line;
         let is_printed = writeln!(out, "{line}.").is_ok() && out.flush().is_ok();
@@ -263,7 +263,7 @@ impl ScriptRunner {
         answer
     }
 
-    /// The stream of a view, held whole in memory, or the cause for which there is none.
+    /// A line that a script may have too.
     fn stream_of(&mut self, view: &str) -> Result<MemorySink, Cause> {
         let mut sink = MemorySink::new(self.alloc);
         let step = Step::Write { view, sink: 0 };
@@ -276,7 +276,7 @@ impl ScriptRunner {
         }
     }
 
-    /// Prints a view: a line with the length of its stream, and then the stream.
+    /// Prints a view's stream: a line with the length of its stream, and then the stream.
     pub(crate) fn send<W: Write>(&mut self, view: &str, out: &mut W) {
         match self.stream_of(view) {
             Ok(sink) => {
@@ -355,7 +355,7 @@ fn write_refused<'a, F: Files>(fault: ViewFault, path: &'a str, files: &F) -> An
     }
 }
 
-/// What the lines of a script ask for, as far as it is known before the first is run.
+/// What is known of the lines of a script before the first is run.
 #[derive(Clone, Copy, Debug)]
 enum Outlook {
     /// The first line that is wrong, by its number from 1.
@@ -371,7 +371,7 @@ pub(crate) fn writes_standard(line: &Line) -> bool {
     }
 }
 
-/// Reads all lines of a script.
+/// Reads all lines of a script before any is run.
 fn look_ahead(script: &[u8]) -> Outlook {
     let mut number = 0usize;
     let mut write_standard = false;

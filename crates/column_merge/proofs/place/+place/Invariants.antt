@@ -9,7 +9,7 @@ decreases-place l = 2 * rose_size l.tree.now
 abbrev pub decreases-place_all : goal.decreases-place_all
 decreases-place_all l = 2 * roses_size (kids_of l.trees.now) + 1
 
--- what was placed, and what is left to place, are the whole
+-- what was found, and what remains to be found, are the whole
 abbrev pub invariant-place_all-loop-tree : goal.invariant-place_all-loop-tree
 invariant-place_all-loop-tree l =
     (join l.arrays.items

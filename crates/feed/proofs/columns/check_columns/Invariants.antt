@@ -14,7 +14,7 @@ use Rattle.feed.specs.Columns.{cells_in}
 use Rattle.feed.proofs.GatherLemmas.{layouts_before}
 use Rattle.feed.proofs.columns.check_columns.Given as goal
 
--- The columns so far, and those of the arrays that are left to place, are the whole.
+-- The columns so far, and those of the arrays whose buffers remain to be found, are the whole.
 abbrev pub invariant-loop-field : goal.invariant-loop-field
 invariant-loop-field l =
     let left : Roses ArrayData =

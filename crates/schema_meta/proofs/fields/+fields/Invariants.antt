@@ -15,7 +15,7 @@ decreases-read_field l = 4 * l.depth + 2
 abbrev pub decreases-read_children : goal.decreases-read_children
 decreases-read_children l = 4 * l.depth + 1
 
--- what was read, and what is left to read, are the whole
+-- what was read, and what remains to be read, are the whole
 abbrev pub invariant-read_fields-loop-index : goal.invariant-read_fields-loop-index
 invariant-read_fields-loop-index l =
     (with_front l.fields.items (each (entry_by (forest (l.depth - 1)) l.vector) l.index (l.vector.count - l.index))

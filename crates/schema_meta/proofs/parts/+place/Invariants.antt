@@ -12,7 +12,7 @@ decreases-place l = 2 * rose_size l.field.now
 abbrev pub decreases-place_all : goal.decreases-place_all
 decreases-place_all l = 2 * roses_size (kids_of l.fields.now) + 1
 
--- what was placed, and what is left to place, are the whole
+-- what was found, and what remains to be found, are the whole
 abbrev pub invariant-place_all-loop-field : goal.invariant-place_all-loop-field
 invariant-place_all-loop-field l =
     (join l.arrays.items

@@ -11,7 +11,7 @@ use Rattle.sub_groups.specs.SubGroups.{sub_row}
 use Rattle.sub_groups.specs.declared.sub_groups.SubGroups.{SubGroups}
 use Rattle.sub_groups.proofs.tests.followed.Goals as goal
 
--- The rows that are there after the first came, after the second, and after the third, where each is in a sub-group or not.
+-- The rows after the first was inserted, after the second, and after the third, where each is in a sub-group or not.
 abbrev one : Option (List Datum) → NumberedRows
 one a = with_at 0 a []
 

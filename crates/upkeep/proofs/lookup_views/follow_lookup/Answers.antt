@@ -108,7 +108,7 @@ returns-in_ok-numbers-in-Rows-clause-kept c =
     refl kept)
     c.remake_rows.ensures.kept
 
--- the branch of sub-groups: what was kept is what is kept of the rows without the change
+-- the branch of sub-groups: what was stored is that of the rows without the change
 was : (c : In-SubGroups) (old : Rows)
     → IsBefore c.args.table c.args.turn c.args.change.now old (rows_in c.args.stores.now.items)
     → IsCurrentWith (tables_in c.args.stores.now.items) old c.args.view.now c.args.state.now

@@ -115,7 +115,7 @@ module _ (c : After-swap) where
         linked = c.requires.links;
       }
 
-  -- Groups keep what the view makes of the main table's rows, but for those of the sub-groups that are out.
+  -- Groups hold the projected rows of the main table's rows, but for those of the sub-groups that are out.
   abbrev Keep : Rows → Ranked → List (List Key) → Type 0
   Keep held g out =
       KeepsOthers tables held c.args.view.now c.args.sub_groups.now (linked_rows laws kept) g out
@@ -136,7 +136,7 @@ module _ (c : After-swap) where
       ∙ ap (λ (ss : List Slot). named_keys (table_at tables c.args.table) c.args.change.now ss)
       (sym (rows_there stores c.args.table here c.index-2.ensures c.requires.there))
 
-  -- What is made of the rows of other sub-groups is the same before the change and after it.
+  -- The projected rows of rows of other sub-groups are the same before the change and after it.
   others_same : (g : Ranked) → Keep before g c.in_ok-tuples.tuples.items
       → Keep (rows_in stores) g c.in_ok-tuples.tuples.items
   others_same g keeps =
@@ -150,7 +150,7 @@ module _ (c : After-swap) where
       (sides_swapped tables c.args.view.now.lookup c.args.table c.args.turn c.args.change.now (rows_in stores)
       (omega (arith, c.requires.there, rows_length stores)) c.requires.looks)) keeps
 
-  -- The sub-groups went.
+  -- The sub-groups were removed.
   gone : {lent : List Store} {named later : List (List Key)} (g : Ranked) → lent ≡ went
       → named ≡ c.in_ok-tuples.tuples.items → later ≡ c.in_ok-tuples.tuples.items
       → TurnsSubGroups lent c.args.view.now c.args.sub_groups.now named turn.Go c.in-Groups.groups g

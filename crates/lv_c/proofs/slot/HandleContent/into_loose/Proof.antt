@@ -1,4 +1,4 @@
--- `into_loose` moves two fields, and what they own goes with them.
+-- `into_loose` moves two fields, and with them what they own.
 use mathlib.Core.Path.{refl, subst, sym}
 use contract.Monad.{fact}
 use denote.Steps.{heard}

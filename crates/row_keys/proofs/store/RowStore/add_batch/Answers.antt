@@ -48,14 +48,14 @@ module _ (c : After-keep_rows) where
       subst (λ (cs : List CheckedColumn). PushesKeys (keys_in c.self.inside.table (batch_rows c.args.rows cs))
       c.self.inside.numbers c.push_batch.new.numbers) c.deref.ensures.value c.in-Ok.ensures.pushed
 
-  -- what is said of the numbers as they were counted
+  -- what holds of the numbers as they were counted
   counted : (P : ℕ → ℕ → Type 0) → P c.live-live.result c.len-before.result
       → P (live_count c.self.inside.numbers) (length c.self.inside.numbers)
   counted P given =
       subst (P (live_count c.self.inside.numbers)) c.len-before.ensures.value
       (subst (λ n. P n c.len-before.result) c.live-live.ensures given)
 
--- The rows are kept.
+-- The rows are accepted.
 module _ (c : goal.In-Ok-keep_rows) where
   abbrev given : After-keep_rows
   given = (goal.at.invariant_of-self-in-Ok-keep_rows c).After-keep_rows

@@ -26,7 +26,7 @@ returns-clause-right c = record {
   keyed = rw (c.in_ok-groups.ensures.keys, c.deref-3.ensures.value, c.in_ok-keys.ensures, c.deref.ensures.value) refl;
 }
 
--- A view that can't be kept by sub-groups doesn't move rows together.
+-- A view that can't be kept by sub-groups doesn't move them.
 pub returns-then-not-can_sub_group-clause-none : goal.returns-then-not-can_sub_group-clause-none
 returns-then-not-can_sub_group-clause-none c = λ none read.
     let look : c.args.view.now.lookup ≡ Some c.in-Some-Groups.lookup =

@@ -44,7 +44,7 @@ returns-in_err-change c =
     (edit_refused (changed_inside c.self.view_is c.requires.there c.index_mut.ensures.value c.edit.ensures.table)
     c.requires.side c.in_err-change.ensures.makes)
 
--- The edit is made, and the views are to follow its change.
+-- The edit is applied, and the views are to follow its change.
 module _ (c : In_ok-change) where
   changed : Changed c.self.inside.stores.items c.args.table c.index_mut.result.now c.edit.new.self
   changed = changed_inside c.self.view_is c.requires.there c.index_mut.ensures.value c.edit.ensures.table
@@ -79,7 +79,7 @@ returns-in-Ok c =
     (opened_after (changed place) c.in_ok-change.change c.self.inside.views.items c.requires.side
     c.in-Ok.ensures.same_rows (rw c.deref.ensures.value at c.in-Ok.ensures.visits)))
 
--- There is no memory for the views: the edit is undone.
+-- Memory for the views is refused: the edit is undone.
 pub restore-requires : goal.restore-requires
 restore-requires c =
     can_restore (changed (goal.at.restore-requires c).In_ok-change) c.in-Err.ensures.same_rows

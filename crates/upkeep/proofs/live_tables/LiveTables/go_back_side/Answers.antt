@@ -65,7 +65,7 @@ follow_lookups-requires c =
     c.swap.ensures.again (same place.After-swap) in
     record { of = can.these; side = c.requires.side; there = can.there; swaps = can.swaps; current = can.current }
 
--- The views followed: the rows that the change had brought are forgotten.
+-- The views followed: the rows that the change had added are removed.
 pub forget-requires : goal.forget-requires
 forget-requires c =
     let hidden = swaps_found (changed (goal.at.forget-requires c).After-swap) c.in-Ok.ensures.same_rows
@@ -103,7 +103,7 @@ returns-in-Ok c =
     c.follow_lookups.new.stores.items c.forget.new.self (ap (λ (s : Store). s.slots) c.swap.ensures.slots)
     (rw c.deref.ensures.value at c.in-Ok.ensures.visits)))
 
--- There is no memory for the views: the change is shown again.
+-- Memory for the views is refused: the change is shown again.
 pub swap-requires-in-Err : goal.swap-requires-in-Err
 swap-requires-in-Err c =
     swaps_found (changed (goal.at.swap-requires-in-Err c).After-swap) c.in-Err.ensures.same_rows
