@@ -71,7 +71,8 @@ weight_in body p bare here beside i =
 abbrev mutual
   pub weight_at : List ℕ → Rose ArrayData → ℕ → ℕ
   weight_at body (node p kids) i =
-      weight_in body p (null_weight (node (layout_by p.dictionary p.layout) (layouts_of kids))) (λ j. first_weight body kids j)
+      weight_in body p (null_weight (node (layout_by p.dictionary p.layout) (layouts_of kids)))
+      (λ j. first_weight body kids j)
       (λ j. weight_beside body kids j) i
 
   pub first_weight : List ℕ → Roses ArrayData → ℕ → ℕ

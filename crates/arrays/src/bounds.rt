@@ -117,7 +117,8 @@ fn encoded_bound(body: &[u8], own: &ArrayData, dictionary: &DictionaryValues) ->
 #[cycle(bound)]
 pub(crate) fn weight_bound(body: &[u8], array: &Array) -> u64
     requires { IsSound body.now array.now }
-    ensures value { IsBound result (null_weight (layout_of array.now)) (len_of array.now) (weight_at body.now array.now) }
+    ensures value { IsBound result (null_weight (layout_of array.now)) (len_of array.now)
+        (weight_at body.now array.now) }
     ensures bound { result ≤ max_cell_weight + 1 }
 {
     own_bound(body, &array.own, &array.children)

@@ -51,7 +51,8 @@ GivesUp was is s t g =
 
 -- The state of more rows can be added to that of some, with the same columns: there are few of both together.
 abbrev pub CanAdd :
-    (List AccumulatedColumn → List (List Datum) → Type 0) → (List AccumulatedColumn → List (List Datum) → Type 0) → Type 0
+    (List AccumulatedColumn → List (List Datum) → Type 0) → (List AccumulatedColumn → List (List Datum) → Type 0)
+    → Type 0
 CanAdd was more =
     (columns : List AccumulatedColumn) × (rest : List (List Datum)) × (moved : List (List Datum))
     × (was columns rest × (more columns moved × (length rest + length moved < max_appended_rows)))

@@ -41,7 +41,8 @@ pub record IsRead
   pub row_is : (rows : List (List Datum)) → KeepsRows columns e.1 rows
       → All (λ o. CanRead columns rows o.aggregate) outs → cells ≡ group_row outs (data_of e.0) rows
 
-abbrev pub AreRead : List AccumulatedColumn → List GroupOutput → List (List Key × GroupCounts) → List (List Datum) → Type 0
+abbrev pub AreRead : List AccumulatedColumn → List GroupOutput → List (List Key × GroupCounts) → List (List Datum)
+    → Type 0
 AreRead columns outs [] [] = Unit {0}
 AreRead columns outs [] (r ∷ rs) = ⊥
 AreRead columns outs (e ∷ es) [] = ⊥

@@ -47,7 +47,8 @@ fn accumulated_for(aggregate: Aggregate) -> Option<AccumulatedColumn>
 /// Adds the column that an output reads, if it reads one, in the form that it reads.
 fn keep_read(columns: &mut Vec<AccumulatedColumn>, aggregate: Aggregate) -> Result<(), AllocError>
     ensures here { OnOk result (IsAccumulated columns.new.items aggregate) }
-    ensures still { OnOk result ((a : Aggregate) → IsAccumulated columns.old.items a → IsAccumulated columns.new.items a) }
+    ensures still { OnOk result ((a : Aggregate) → IsAccumulated columns.old.items a
+        → IsAccumulated columns.new.items a) }
     ensures only { OnOk result ((p : ℕ → Bool) → ((k : ℕ) → reads aggregate k ≡ true → p k ≡ true)
         → All (λ k. p k.column ≡ true) columns.old.items → All (λ k. p k.column ≡ true) columns.new.items) }
 {

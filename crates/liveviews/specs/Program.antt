@@ -87,7 +87,8 @@ IsNoConfig held (refusal.Refused c) = (c ≡ cause.Memory) ⊎ RefusesFile held 
 abbrev pub StopsSo : Option (List ℕ) → Sunk → Sunk → Option FileFault → Refusal → Type 0
 StopsSo held old new not_created refusal.WrongUse = new ≡ old
 StopsSo held old new not_created (refusal.CannotRead path) = new ≡ old
-StopsSo held old new not_created (refusal.CannotWrite path) = (new ≡ old) ⊎ MakesNone held old new not_created file.Unusable
+StopsSo held old new not_created (refusal.CannotWrite path) =
+    (new ≡ old) ⊎ MakesNone held old new not_created file.Unusable
 StopsSo held old new not_created (refusal.Refused c) = StopsFor held old new not_created c
 
 abbrev pub Ends : Option (List ℕ) → Sunk → Sunk → Option FileFault → Result ℕ Refusal → Type 0

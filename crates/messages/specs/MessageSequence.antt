@@ -19,7 +19,8 @@ abbrev pub stopped : Reading Stream → MessageSequence
 stopped rest = record { messages = []; rest = rest }
 
 -- after the first message, where `later` reads what comes after it
-abbrev pub sequence_after : (Known → List ℕ → MessageSequence) → Known → List ℕ → Reading (Option Whole) → MessageSequence
+abbrev pub sequence_after : (Known → List ℕ → MessageSequence) → Known → List ℕ → Reading (Option Whole)
+    → MessageSequence
 sequence_after later known bytes (Ok None) = stopped (Ok (record { known = known; held = bytes }))
 sequence_after later known bytes (Ok (Some w)) =
     led_by (message_of known w bytes) (later (after known w.meta) (drop (end_of w) bytes))

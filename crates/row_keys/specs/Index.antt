@@ -79,7 +79,8 @@ pub record IsIndex (keys : List Key) (holders : List ℕ) (entries : List Entry)
   pub after_null : (n : ℕ) (e : Entry) → slice_get entries n ≡ Some e → e.is_new ≡ true → 0 < e.key
 
 -- The same of retained entries: there are no more numbers than can be counted.
-pub record IsRetainedIndex (keys : List Key) (holders : List ℕ) (kept : List RetainedEntry) (len live : ℕ) : Type 0 where
+pub record IsRetainedIndex (keys : List Key) (holders : List ℕ) (kept : List RetainedEntry)
+    (len live : ℕ) : Type 0 where
   pub index : IsIndex keys holders (all_entries kept len) live
   pub order : AreInOrder 0 kept len
   pub bound : len < 2 ^ 63

@@ -90,7 +90,8 @@ abbrev pub year_text : Bool → ℕ → List ℕ
 year_text before year = year_sign before year ++ at_least 4 year
 
 abbrev pub civil_text : Date → List ℕ
-civil_text d = year_text d.before d.year ++ (codes "-" ++ (fixed_digits 2 d.month ++ (codes "-" ++ fixed_digits 2 d.day)))
+civil_text d =
+    year_text d.before d.year ++ (codes "-" ++ (fixed_digits 2 d.month ++ (codes "-" ++ fixed_digits 2 d.day)))
 
 abbrev pub date_text : ℤ → List ℕ
 date_text days = civil_text (civil days)

@@ -27,7 +27,8 @@ HasPut start now written fs coded rows held =
 -- A fault: what was put is a prefix of the canonical stream of each table that begins with these rows.
 abbrev pub StopsIn : Sunk → Sunk → WriteFault → List (Rose NamedType) → List ℕ → List (List Datum) → Type 0
 StopsIn start now fault fs coded rows =
-    (more : List (List Datum)) → All (IsRow fs) more → Writes start now (Err fault) (coded_canon fs coded (rows ++ more))
+    (more : List (List Datum)) → All (IsRow fs) more
+    → Writes start now (Err fault) (coded_canon fs coded (rows ++ more))
 
 -- Of a table with these columns, `rows` are the rows so far, of which the held rows are the last, and may be written
 -- after `written` bytes.

@@ -115,7 +115,8 @@ pub record ArePlaced
 -- The rows of a sub-group belong to the group of its representative.
 abbrev pub SubGroupsArePlaced : Type 0
 SubGroupsArePlaced =
-    (n : ℕ) (v : View) (l : Lookup) (by : List ℕ) (columns : List AccumulatedColumn) (side : Side) (rows : List (List Datum))
+    (n : ℕ) (v : View) (l : Lookup) (by : List ℕ) (columns : List AccumulatedColumn) (side : Side)
+    (rows : List (List Datum))
     (t : List Key)
     → CanSubGroup n v l by columns → All (IsSubRow n v (sub_keys n l by)) rows
     → ArePlaced by columns (representative_row n v side (sub_keys n l by) t) (members (sub_keys n l by) t rows)

@@ -12,4 +12,5 @@ use Rattle.top_rows.specs.Ties.{placed_by}
 abbrev pub EntriesAreSorted : Type 0
 EntriesAreSorted =
     (kept : OrderedEntries) (rows : NumberedRows) → IsStrictlySortedBy nat_cmp (keys_of rows)
-    → IsStrictlySortedBy entry_cmp kept.order_entries → Keeps kept rows → kept.order_entries ≡ placed_by nat_cmp kept.order rows
+    → IsStrictlySortedBy entry_cmp kept.order_entries → Keeps kept rows
+    → kept.order_entries ≡ placed_by nat_cmp kept.order rows

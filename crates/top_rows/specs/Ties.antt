@@ -33,7 +33,8 @@ module _ {N : Type 0} (cmp : N → N → Ordering) where
   is_entry_by order n (Some row) p = is_at (tied_cmp cmp (entry_by order n row)) p
 
   -- There is an entry where the row of its name has its sort keys.
-  pub record KeepsBy (order : List OrderBy) (order_entries : List (List SortKey × N)) (at : N → Option (List Datum)) : Type 0
+  pub record KeepsBy (order : List OrderBy) (order_entries : List (List SortKey × N))
+      (at : N → Option (List Datum)) : Type 0
     where
       pub entries_are : (p : List SortKey × N) → stands_by order_entries p ≡ has_sort_keys order p.0 (at p.1)
 

@@ -75,7 +75,8 @@ projected_but v side keys out rows = filter_map (passing_row v side) (rows_but k
 
 -- the representative row of a sub-group, for which its group is found
 abbrev pub representative_row_of : List Store → View → SubGroups → List Key → Option (List Datum)
-representative_row_of stores v s t = representative_row (width_in (tables_in stores)) v (side_from stores v) s.groups.keys t
+representative_row_of stores v s t =
+    representative_row (width_in (tables_in stores)) v (side_from stores v) s.groups.keys t
 
 -- Groups hold the projected rows of these rows, but for those of the sub-groups that are out.
 abbrev pub KeepsBut : List Store → View → SubGroups → Ranked → List (List Key) → List (List Datum) → Type 0

@@ -44,7 +44,8 @@ AreOfKeys keys side rows = (d : Datum) → is_among d keys ≡ true → side_of_
 -- side table in place of those before it
 abbrev pub sided_change : List Slot → View → SideRows → List ℕ → List Shift
 sided_change slots v sides ns =
-    reprojected_by (projected_row v (side_of_rows sides.before.entries)) (projected_row v (side_of_rows sides.after.entries)) slots ns
+    reprojected_by (projected_row v (side_of_rows sides.before.entries))
+    (projected_row v (side_of_rows sides.after.entries)) slots ns
 
 -- the projected row of a row with this row of a side table
 abbrev pub kept_with : View → List Datum → Option (List Datum) → Option (List Datum)
@@ -56,4 +57,5 @@ sided_cells s = s.main.now ++ side_cells (option_map (λ cells. cells.now) s.sid
 -- the change at a number where the projected row of a row of the main table was one and is another now
 abbrev pub sided_shift : View → ℕ → Option SidedRow → Option SidedRow → Shift
 sided_shift v n before after =
-    shift n (projected_by v.outputs (option_map sided_cells before)) (projected_by v.outputs (option_map sided_cells after))
+    shift n (projected_by v.outputs (option_map sided_cells before))
+    (projected_by v.outputs (option_map sided_cells after))

@@ -204,7 +204,8 @@ turned_last t slots n = turned t slots (last_numbers n slots)
 
 -- the change of the projected rows of these rows
 abbrev pub projected_change : List Table → Rows → View → Turn → List ℕ → List Shift
-projected_change tables rows v t ns = map (shift_image (projected_row v (side_by tables rows v))) (turned t (rows_at rows 0) ns)
+projected_change tables rows v t ns =
+    map (shift_image (projected_row v (side_by tables rows v))) (turned t (rows_at rows 0) ns)
 
 -- the change of what links store
 abbrev pub link_change : List Slot → Links → View → Turn → List ℕ → List Shift
@@ -232,7 +233,8 @@ reprojected_by f g slots ns = map (λ n. shift n (f (row_of slots n)) (g (row_of
 -- the change of a view's projected rows of these rows where the change of a side table is turned
 abbrev pub reprojected_change : List Table → Rows → View → ℕ → Turn → TableChange → List ℕ → List Shift
 reprojected_change tables rows v n t c ns =
-    reprojected_by (projected_row v (side_by tables (swapped_at n t c rows) v)) (projected_row v (side_by tables rows v))
+    reprojected_by (projected_row v (side_by tables (swapped_at n t c rows) v))
+    (projected_row v (side_by tables rows v))
     (rows_at rows 0) ns
 
 -- The rows before the change of a table was turned: the other tables' are the same, and of the table those are live

@@ -71,8 +71,8 @@ fn remake_number(
 ) -> Result<(), AllocError>
     requires main { 0 < length stores.old.items }
     requires there { number < length (main_slots stores.old.items) }
-    requires fits { CanTurn (IsMaterialized view.now kept.old) (sided_change (main_slots stores.old.items) view.now sides.now
-        (number ∷ [])) }
+    requires fits { CanTurn (IsMaterialized view.now kept.old)
+        (sided_change (main_slots stores.old.items) view.now sides.now (number ∷ [])) }
     ensures kept { OnOk result (MaterializedFollows view.now kept.old kept.new
         (sided_change (main_slots stores.old.items) view.now sides.now (number ∷ []))) }
     ensures same_rows { HaveSameRows stores.old.items stores.new.items }
@@ -99,8 +99,8 @@ pub(crate) fn remake_numbers(
 ) -> Result<(), AllocError>
     requires main { 0 < length stores.old.items }
     requires there { All (λ n. n < length (main_slots stores.old.items)) numbers.now }
-    requires fits { CanFollow (IsMaterialized view.now kept.old) (sided_change (main_slots stores.old.items) view.now sides.now
-        numbers.now) }
+    requires fits { CanFollow (IsMaterialized view.now kept.old)
+        (sided_change (main_slots stores.old.items) view.now sides.now numbers.now) }
     ensures kept { OnOk result (MaterializedFollows view.now kept.old kept.new
         (sided_change (main_slots stores.old.items) view.now sides.now numbers.now)) }
     ensures same_rows { HaveSameRows stores.old.items stores.new.items }

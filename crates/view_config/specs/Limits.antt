@@ -73,4 +73,5 @@ abbrev pub IsSlotOf : Option ℕ → Rose Layout → Type 0
 IsSlotOf o t = MatchOption o (null_weight_fits t ≡ false) (λ n. (null_weight_fits t ≡ true) × (n ≡ null_weight t))
 
 abbrev pub AreSlotsOf : Option ℕ → Roses Layout → Type 0
-AreSlotsOf o ts = MatchOption o (null_weights_fit ts ≡ false) (λ n. (null_weights_fit ts ≡ true) × (n ≡ null_weights ts))
+AreSlotsOf o ts =
+    MatchOption o (null_weights_fit ts ≡ false) (λ n. (null_weights_fit ts ≡ true) × (n ≡ null_weights ts))

@@ -24,7 +24,8 @@ pub record Scope : Type 0 where
 abbrev pub scope_code : Coded Scope
 scope_code =
     code_by (Rows × (List (Rose NamedType) × List (Rose NamedType)))
-    (coded× rows_type.the_row.coded (coded× (coded_list (rose_code logical_code)) (coded_list (rose_code logical_code))))
+    (coded× rows_type.the_row.coded (coded× (coded_list (rose_code logical_code))
+    (coded_list (rose_code logical_code))))
     (λ s. (s.rows, (s.main, s.side))) (λ p. record { rows = p.0; main = p.1.0; side = p.1.1 }) (λ _. refl)
 
 abbrev pub joined_scope : List (Rose NamedType) → List (Rose NamedType) → Scope

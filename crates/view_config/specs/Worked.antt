@@ -174,7 +174,8 @@ texts =
     config_by
     (keyed max_main_rows (leaf (codes "id") int64 ∷ leaf (codes "x") utf8 ∷ leaf (codes "y") utf8 ∷ []) 0) [] []
     (view_named (codes "t") None None
-    (columns (output_named (codes "a") 1 ∷ output_named (codes "i") 0 ∷ output_named (codes "b") 2 ∷ [])) [] (0 ∷ 2 ∷ [])
+    (columns (output_named (codes "a") 1 ∷ output_named (codes "i") 0 ∷ output_named (codes "b") 2 ∷ [])) []
+    (0 ∷ 2 ∷ [])
     None ∷ [])
 
 -- a text that is refused for this cause and for no other

@@ -52,7 +52,8 @@ layouts_of t = trees_of (kids_of t.columns)
 -- Whether a cause applies to rows that are added after all others.
 abbrev pub rows_have_cause : Table → Contents → List (List Datum) → Unfit → Bool
 rows_have_cause t c rows unfit.NullKey = has_null (keys_in t rows)
-rows_have_cause t c rows unfit.DuplicateKey = has_repeated (keys_in t rows) || any_among (keys_in t rows) (keys_in t c.live)
+rows_have_cause t c rows unfit.DuplicateKey =
+    has_repeated (keys_in t rows) || any_among (keys_in t rows) (keys_in t c.live)
 rows_have_cause t c rows unfit.UnknownKey = false
 rows_have_cause t c rows unfit.TooManyRows =
     nat_lt t.max_rows (length c.live + length rows) || nat_lt max_appended_rows (c.appended + length rows)

@@ -212,7 +212,8 @@ pub(crate) fn child_segments<'a>(
     j: usize,
 ) -> Result<Vec<Segment<'a>>, AllocError>
     requires { All (OfSlots (HasChild layout j)) segments.now }
-    ensures cells { IfOk result (λ below. segments_cells below.items ≡ child_cells layout j (segments_cells segments.now)) }
+    ensures cells { IfOk result (λ below. segments_cells below.items
+        ≡ child_cells layout j (segments_cells segments.now)) }
     ensures lies { IfOk result (λ below. (t : Rose Layouts) (m : Rose ArrayData)
         → All (OfSlots (ChildLies t m j)) segments.now → All (LiesAs t m) below.items) }
 {

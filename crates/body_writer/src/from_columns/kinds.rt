@@ -108,7 +108,8 @@ fn all_lie_as(segments: &[Segment], layout: &LayoutTree, model: ColumnParts) -> 
 
 /// The array of a segment, if it is of slots.
 fn array_of<'a>(segment: &Segment<'a>) -> Option<ColumnParts<'a>>
-    ensures { IfSome result (λ a. (t : Rose Layouts) (m : Rose Arrays) → LiesAs t m segment.now → Lies t m (array_of a)) }
+    ensures { IfSome result (λ a. (t : Rose Layouts) (m : Rose Arrays) → LiesAs t m segment.now
+        → Lies t m (array_of a)) }
 {
     match segment {
         Segment::Slots(range) => Some(range.parts),

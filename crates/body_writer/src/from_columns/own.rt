@@ -91,7 +91,8 @@ fn truths(alloc: Global, segments: &[Segment]) -> Result<Bitmap, AllocError>
 /// Appends the bytes of cells of a fixed width.
 fn push_slots(out: &mut Vec<u8>, layout: Layout, segments: &[Segment]) -> Result<(), AllocError>
     requires { All (OfSlots (HasLayout layout)) segments.now }
-    ensures { OnOk result (out.new.items ≡ out.old.items ++ flat_map (slot_bytes layout) (segments_cells segments.now)) }
+    ensures { OnOk result (out.new.items ≡ out.old.items
+        ++ flat_map (slot_bytes layout) (segments_cells segments.now)) }
 {
     for segment in segments {
         push_segment_slots(out, layout, segment)?;

@@ -124,7 +124,8 @@ impl Inspection {
     /// Ends the input, and writes the line of its end.
     fn end(&mut self) -> Result<(), StreamFault>
         requires open { IsOpen self.old }
-        ensures complete { OnOk result ((a : Account) → IsLeft a self.old [] → ReportsAccount a (string_bytes self.new.text) 0) }
+        ensures complete { OnOk result ((a : Account) → IsLeft a self.old []
+            → ReportsAccount a (string_bytes self.new.text) 0) }
         ensures fault { IfErr result (λ f. (a : Account) → IsLeft a self.old []
             → Breaks a (string_bytes self.new.text) f) }
     {

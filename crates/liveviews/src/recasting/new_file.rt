@@ -24,7 +24,8 @@ pub(crate) fn recast_file<'a, F: Files>(
     to: &'a str,
     files: &mut F,
 ) -> Result<u64, Refusal<'a>>
-    ensures { Ends (F.content files.old from.now) (F.sunk files.old) (F.sunk files.new) (F.not_created files.new) result }
+    ensures { Ends (F.content files.old from.now) (F.sunk files.old) (F.sunk files.new)
+        (F.not_created files.new) result }
 {
     files.print_aside(to == STANDARD);
     let mut input = open_file(from, files)?;

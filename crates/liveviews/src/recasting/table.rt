@@ -48,7 +48,8 @@ fn take_message(feed: &mut Feed, piece: &[u8], rows: &mut BufferedBatches) -> Re
     ensures open { OnOk result (IsOpen feed.new) }
     ensures counted { OnOk result (IsCounted rows.new) }
     ensures used { IfOk result (λ n. (0 < n) × (n ≤ length piece.now)) }
-    ensures taken { IfOk result (λ n. (s : Story) (later : List ℕ) → HasConsumed s feed.old rows.old (piece.now ++ later)
+    ensures taken { IfOk result (λ n. (s : Story) (later : List ℕ)
+        → HasConsumed s feed.old rows.old (piece.now ++ later)
         → HasConsumed s feed.new rows.new (drop n piece.now ++ later)) }
     ensures refused { IfErr result (λ c. (s : Story) (later : List ℕ)
         → HasConsumed s feed.old rows.old (piece.now ++ later) → Refuses s c) }
@@ -132,7 +133,8 @@ fn finish(alloc: Global, feed: &Feed, rows: BufferedBatches) -> Result<Table, Ca
         → Means s t.schema.fields.items (buffered_rows t.rows)) }
     ensures within { IfOk result (λ t. (s : Story) → IsComplete s feed.now (buffered_rows rows)
         → IsTable t.schema.fields.items (buffered_rows t.rows)) }
-    ensures kept { IfOk result (λ t. (s : Story) → IsComplete s feed.now (buffered_rows rows) → IsBufferedSo s.schema rows
+    ensures kept { IfOk result (λ t. (s : Story) → IsComplete s feed.now (buffered_rows rows)
+        → IsBufferedSo s.schema rows
         → IsWritable t.schema.fields.items t.rows) }
     ensures same { IfOk result (λ t. t.rows ≡ rows) }
     ensures lacks { IfErr result (λ c. (s : Story) → IsComplete s feed.now (buffered_rows rows) → Refuses s c) }
