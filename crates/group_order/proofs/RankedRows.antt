@@ -1,6 +1,6 @@
 -- The rows of the first places are the first of the definition's group rows.
-use Rattle.std.proofs.Common.{◌≡◌, refl, ap, ap₂, sym, ◌∙◌, subst, arith, get_or, length, true≢false}
-use Rattle.std.specs.Prelude.{◌++◌, ◌+◌, ◌<◌, ℕ, ℤ, zero, suc, Bool, true, false, cond, filter, List, [], ◌∷◌, map, Option, None, Some, take}
+use Rattle.std.proofs.Common.{◌≡◌, zero, suc, false, refl, ap, ap₂, sym, ◌∙◌, subst, arith, get_or, length, true≢false}
+use Rattle.std.specs.Prelude.{◌++◌, ◌+◌, ◌<◌, ℕ, Bool, true, cond, filter, List, [], ◌∷◌, map, Option, None, Some, take}
 use Rattle.std.specs.BTreeMap.{is_at}
 use Rattle.std.specs.Cmp.{Equal-is, eq_by_cmp_equiv}
 use Rattle.std.specs.declared.cmp.Ordering.TheVariants.{Less}
@@ -9,9 +9,7 @@ use Rattle.std.specs.List.Sorted.{IsStrictlySortedBy}
 use Rattle.std.specs.Map.{keys_of, lookup, values_of}
 use Rattle.std.specs.Option.{option_map}
 use Rattle.values.specs.Datum.{Datum}
-use Rattle.values.specs.Keys.{datum_of_key}
 use Rattle.values.specs.declared.key.Key.{Key}
-use Rattle.values.specs.declared.key.Key.TheVariants as key
 use Rattle.view_lang.specs.Cells.{cell_at}
 use Rattle.std.proofs.lemmas.Bool.{lt-ltb}
 use Rattle.std.proofs.lemmas.List.{take_more}
@@ -27,21 +25,15 @@ use Rattle.view_lang.specs.Sorted.{placed, sorted}
 use Rattle.view_lang.specs.Truth.{passes}
 use Rattle.view_lang.specs.ViewLaws.{TuplesAsk, TuplesAscend, TuplesAreOfRows}
 use Rattle.view_lang.specs.Aggregates.{IsKeyCell}
-use Rattle.view_lang.specs.declared.aggregate.Aggregate.{Aggregate}
-use Rattle.view_lang.specs.declared.aggregate.Aggregate.TheVariants as aggregate
 use Rattle.view_lang.specs.declared.view.OrderBy.{OrderBy}
 use Rattle.group_state.specs.GroupCounts.{GroupCounts}
 use Rattle.group_state.specs.Grouped.{Grouped}
 use Rattle.group_state.specs.Groups.{Keeps as KeepsGroups, KeepsAt}
-use Rattle.group_state.specs.Keys.{tuple_cmp, tuple_total, data_of, datum_in}
+use Rattle.group_state.specs.Keys.{tuple_cmp, tuple_total}
 use Rattle.group_state.specs.Reading.{AreRead, CanReadAll}
-use Rattle.group_state.specs.Folds.{first_of, last_of}
-use Rattle.group_state.specs.AccumulatedColumns.{counted, valued}
-use Rattle.group_state.specs.Seen.{seen_count, seen_distinct, seen_greatest, seen_in, seen_least, seen_sum, sum_by, tally_at}
-use Rattle.group_state.specs.Aggregates.{seen_cell, seen_row}
+use Rattle.group_state.specs.Aggregates.{seen_row}
 use Rattle.group_state.specs.declared.accumulated_columns.AccumulatedColumn.{AccumulatedColumn}
-use Rattle.group_state.specs.declared.tally.Tally.{Tally}
-use Rattle.group_state.specs.declared.tally.Tally.TheVariants as tally
+use Rattle.group_state.proofs.AggregateCases.{one-cell}
 use Rattle.group_state.proofs.GroupLaw.{all-read}
 use Rattle.group_state.proofs.Members.{tuple_exact}
 use Rattle.group_state.proofs.Seen.{seen-read}
@@ -52,60 +44,6 @@ use Rattle.group_order.specs.GroupEntries.{group_entry_cmp}
 use Rattle.group_order.specs.Ranked.{Keeps, Ranked, Ranking, has_entries, if_passing, placed_at, ranked_rows, ranking_by, shown_at}
 
 -- What is shown of groups is neither a list nor a struct.
-
-key-cell : (k : Key) → IsKeyCell (datum_of_key k)
-key-cell (key.Bool b) = refl
-key-cell (key.Int n) = refl
-key-cell (key.Utf8 t) = refl
-key-cell (key.Binary b) = refl
-key-cell key.Null = refl
-
-some-cell : (o : Option Key) → IsKeyCell (datum_in o)
-some-cell None = refl
-some-cell (Some k) = key-cell k
-
-data-cell : (t : List Key) (k : ℕ) → IsKeyCell (cell_at (data_of t) k)
-data-cell [] k = refl
-data-cell (x ∷ xs) zero = key-cell x
-data-cell (x ∷ xs) (suc k) = data-cell xs k
-
-sum-cell : (n : ℕ) (sum : ℤ) → IsKeyCell (sum_by n sum)
-sum-cell zero sum = refl
-sum-cell (suc n) sum = refl
-
-count-of : (t : Tally) → IsKeyCell (seen_count t)
-count-of (tally.Total t) = refl
-count-of (tally.Values es) = refl
-
-distinct-of : (t : Tally) → IsKeyCell (seen_distinct t)
-distinct-of (tally.Total t) = refl
-distinct-of (tally.Values es) = refl
-
-sum-of : (t : Tally) → IsKeyCell (seen_sum t)
-sum-of (tally.Total t) = sum-cell t.filled t.total
-sum-of (tally.Values es) = refl
-
-least-of : (t : Tally) → IsKeyCell (seen_least t)
-least-of (tally.Total t) = refl
-least-of (tally.Values es) = some-cell (first_of es)
-
-greatest-of : (t : Tally) → IsKeyCell (seen_greatest t)
-greatest-of (tally.Total t) = refl
-greatest-of (tally.Values es) = some-cell (last_of es)
-
-in-cell : (f : Tally → Datum) (o : Option Tally) → ((t : Tally) → IsKeyCell (f t)) → IsKeyCell (seen_in f o)
-in-cell f None h = refl
-in-cell f (Some t) h = h t
-
-one-cell : (columns : List AccumulatedColumn) (e : List Key × GroupCounts) (a : Aggregate)
-    → IsKeyCell (seen_cell columns e a)
-one-cell columns e (aggregate.Key k) = data-cell e.0 k
-one-cell columns e aggregate.Count = refl
-one-cell columns e (aggregate.CountOf k) = in-cell seen_count (tally_at columns e.1.tallies (counted k)) count-of
-one-cell columns e (aggregate.Distinct k) = in-cell seen_distinct (tally_at columns e.1.tallies (valued k)) distinct-of
-one-cell columns e (aggregate.Sum k) = in-cell seen_sum (tally_at columns e.1.tallies (counted k)) sum-of
-one-cell columns e (aggregate.Least k) = in-cell seen_least (tally_at columns e.1.tallies (valued k)) least-of
-one-cell columns e (aggregate.Greatest k) = in-cell seen_greatest (tally_at columns e.1.tallies (valued k)) greatest-of
 
 each-cell : (columns : List AccumulatedColumn) (outs : List GroupOutput) (e : List Key × GroupCounts) (k : ℕ)
     → IsKeyCell (cell_at (seen_row columns outs e) k)

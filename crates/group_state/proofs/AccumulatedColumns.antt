@@ -1,15 +1,13 @@
 -- Columns that are kept stay kept.
-use Rattle.std.proofs.Common.{◌≡◌, None, Option, Some, zero, suc, arith, refl, ap, ap₂, sym, subst, get_or, take, true≢false}
-use Rattle.std.proofs.lemmas.Option.{none-some}
+use Rattle.std.proofs.Common.{◌≡◌, zero, suc, arith, refl, ap₂, sym, subst, get_or, take, true≢false}
 use Rattle.std.proofs.lemmas.Bool.{eq-eqb, eqb-true}
 use Rattle.std.specs.Prelude.{All, Result, Ok, Err, OnOk, Bool, true, false, ◌&&◌, ◌==◌, List, [], ◌∷◌, ◌++◌, length, ℕ, ◌+◌, ◌<◌}
 use Rattle.std.proofs.lemmas.List.Folds.{list_any_at}
 use Rattle.std.proofs.lemmas.List.Elements.{All-append, All-more, All-weaker}
 use Rattle.view_lang.specs.Outputs.{GroupOutput}
 use Rattle.view_lang.specs.declared.aggregate.Aggregate.{Aggregate}
-use Rattle.view_lang.specs.declared.aggregate.Aggregate.TheVariants as aggregate
 use Rattle.group_state.specs.AccumulatedColumns.{same_column, same_form}
-use Rattle.group_state.specs.Aggregates.{IsAccumulated, accumulated_for, is_read, reads}
+use Rattle.group_state.specs.Aggregates.{IsAccumulated, is_read, reads}
 use Rattle.group_state.specs.declared.accumulated_columns.AccumulatedColumn.{AccumulatedColumn}
 use Rattle.group_state.specs.declared.accumulated_columns.AccumulatorForm.{AccumulatorForm}
 use Rattle.group_state.specs.declared.accumulated_columns.AccumulatorForm.TheVariants as kept
@@ -38,20 +36,6 @@ pub more-read : (p : ℕ → Bool) (columns : List AccumulatedColumn) (c : Accum
 more-read p columns c here all =
     let P : AccumulatedColumn → Type 0 = λ k. p k.column ≡ true in
     All-append P columns (c ∷ []) all (All-one P c here)
-
-abbrev number_in : Option AccumulatedColumn → ℕ
-number_in None = zero
-number_in (Some k) = k.column
-
--- What is kept for an output is of the column that it reads.
-pub kept-read : (a : Aggregate) (k : AccumulatedColumn) → Some k ≡ accumulated_for a → reads a k.column ≡ true
-kept-read (aggregate.Key i) k is = absurd (none-some k (sym is))
-kept-read aggregate.Count k is = absurd (none-some k (sym is))
-kept-read (aggregate.CountOf i) k is = eq-eqb i k.column (sym (ap number_in is))
-kept-read (aggregate.Distinct i) k is = eq-eqb i k.column (sym (ap number_in is))
-kept-read (aggregate.Sum i) k is = eq-eqb i k.column (sym (ap number_in is))
-kept-read (aggregate.Least i) k is = eq-eqb i k.column (sym (ap number_in is))
-kept-read (aggregate.Greatest i) k is = eq-eqb i k.column (sym (ap number_in is))
 
 -- What was so of all columns stays so with one that an output reads, where it is so of all that the output reads.
 pub only-read :

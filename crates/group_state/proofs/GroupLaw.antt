@@ -47,7 +47,7 @@ use Rattle.group_state.proofs.KeyData.{HasKeys, tuple-data, cell-data, test-data
 use Rattle.group_state.proofs.Members.{tuple_exact, tuple_itself}
 use Rattle.view_lang.proofs.AscendingKeys.{same-keys}
 use Rattle.view_lang.proofs.OwnEntries.{HasOwn, own-entries, any-lookup}
-use Rattle.group_state.proofs.Sums.{can-read}
+use Rattle.group_state.proofs.Readable.{can-read}
 
 weaker : {X : Type 0} (P Q : X → Type 0) → ((x : X) → P x → Q x) → (xs : List X) → AllByRecursion P xs
     → AllByRecursion Q xs

@@ -1,6 +1,6 @@
 -- Keys, tuples of them, and the values that they are.
 use Rattle.std.proofs.Common.{◌≡◌, refl, ap, ap₂, sym, ◌∙◌, true≢false}
-use Rattle.std.specs.Prelude.{ℕ, Bool, true, false, cond, List, [], ◌∷◌}
+use Rattle.std.specs.Prelude.{ℕ, zero, suc, Bool, true, false, cond, List, [], ◌∷◌, Option, None, Some}
 use Rattle.std.specs.List.{AllByRecursion}
 use Rattle.std.specs.Ordering.{is_eq, ordering_then}
 use Rattle.values.specs.Datum.{Datum, null, truth, whole, text, bytes, list, structure}
@@ -12,7 +12,7 @@ use Rattle.view_lang.specs.Cells.{cell_at, cells_at}
 use Rattle.view_lang.specs.RowOrder.{tuple_cmp as data_cmp}
 use Rattle.view_lang.specs.Groups.{same_tuple, rows_with}
 use Rattle.view_lang.specs.Aggregates.{IsKeyCell}
-use Rattle.group_state.specs.Keys.{key_in, key_cmp, tuple_cmp, data_of}
+use Rattle.group_state.specs.Keys.{key_in, key_cmp, tuple_cmp, data_of, datum_in}
 use Rattle.group_state.specs.Tuples.{tuple_of, has_tuple, members}
 
 pub key-data : (a b : Key) → key_cmp a b ≡ datum_cmp (datum_of_key a) (datum_of_key b)
@@ -59,3 +59,21 @@ unfolding rows_with
 members-data by t [] h = refl
 members-data by t (r ∷ rs) h = ap₂ (λ (b : Bool) (l : List (List Datum)). cond b (r ∷ l) l) (test-data by t r h.0)
     (members-data by t rs h.1)
+
+-- What keys are is neither a list nor a struct.
+
+key-cell : (k : Key) → IsKeyCell (datum_of_key k)
+key-cell (key.Bool b) = refl
+key-cell (key.Int n) = refl
+key-cell (key.Utf8 t) = refl
+key-cell (key.Binary b) = refl
+key-cell key.Null = refl
+
+pub some-cell : (o : Option Key) → IsKeyCell (datum_in o)
+some-cell None = refl
+some-cell (Some k) = key-cell k
+
+pub data-cell : (t : List Key) (k : ℕ) → IsKeyCell (cell_at (data_of t) k)
+data-cell [] k = refl
+data-cell (x ∷ xs) zero = key-cell x
+data-cell (x ∷ xs) (suc k) = data-cell xs k

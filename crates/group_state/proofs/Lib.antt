@@ -6,6 +6,7 @@ pub mod Moves
 pub mod Same
 pub mod Seen
 pub mod SeenCells
+pub mod SeenTallies
 pub mod Steps
 pub mod Folds
 pub mod KeyData
@@ -13,8 +14,10 @@ pub mod FoldReadings
 pub mod Distinct
 pub mod GroupReadings
 pub mod Sums
+pub mod Readable
 pub mod GroupLaw
 pub mod AccumulatedColumns
+pub mod AggregateCases
 pub mod FewValues
 pub mod OneValue
 pub mod Poured

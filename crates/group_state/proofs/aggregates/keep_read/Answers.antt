@@ -1,5 +1,6 @@
 use Rattle.std.proofs.Common.{◌∙◌, sym}
-use Rattle.group_state.proofs.AccumulatedColumns.{kept-read, only-read}
+use Rattle.group_state.proofs.AccumulatedColumns.{only-read}
+use Rattle.group_state.proofs.AggregateCases.{kept-read}
 use Rattle.group_state.proofs.aggregates.keep_read.Goals as goal
 
 pub returns-in-Some-clause-only : goal.returns-in-Some-clause-only
