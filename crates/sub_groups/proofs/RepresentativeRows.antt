@@ -201,7 +201,7 @@ tuple_alike p [] x y same h = refl
 tuple_alike p (k ∷ ks) x y same h =
     ap₂ (λ d ds. d ∷ ds) (ap key_in (same k h.0)) (tuple_alike p ks x y same h.1)
 
--- Conjuncts that none fails.
+-- Items all pass a test that none of them fails.
 
 all_pass : {X : Type 0} (p : X → Bool) (xs : List X) → not (list_any (λ x. not (p x)) xs) ≡ true
     → AllByRecursion (λ x. p x ≡ true) xs

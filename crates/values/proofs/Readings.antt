@@ -241,7 +241,7 @@ stands_each f i (suc n) c h =
           (suc r.0, omega arith, subst (λ (m : ℕ). FailsWith (f m) c) j r.2)
     ]
 
--- A loop that gathers: `with_front xs (each f i (n - i)) ≡ w` says that what was read and what is left are the whole.
+-- A loop that gathers: `with_front xs (each f i (n - i)) ≡ w` says that what was read and what remains are the whole.
 pub front_none : {F X : Type 0} (m : ReadingOf F (List X)) → with_front [] m ≡ m
 front_none (Ok ys) = refl
 front_none (Err fs) = refl

@@ -16,8 +16,8 @@ pub enum Cause {
     /// *framing*: the metadata size is negative or above 2^24.
     #[error("the metadata size is negative or above 2^24")]
     BadSize = 2,
-    /// *metadata*: a place that must be read lies outside the metadata, a vtable's own size is under 4, or a header
-    /// table that its kind demands is absent.
+    /// *metadata*: a position that must be read lies outside the metadata, a vtable's own size is under 4, or a header
+    /// table that its kind requires is absent.
     #[error("a place that must be read lies outside the metadata, a vtable's own size is under 4, or a table that must be there is absent")]
     BadTable = 3,
     /// *metadata*: a field name isn't UTF-8 or is longer than 4,096 bytes.
@@ -64,7 +64,7 @@ pub enum Cause {
     /// *metadata*: a dictionary would have more than 2^20 values after the batch.
     #[error("a dictionary would have more than 2^20 values")]
     DictionaryTooLarge = 17,
-    /// *metadata*: the number of nodes isn't one a field; in a DictionaryBatch, isn't 1.
+    /// *metadata*: the number of nodes isn't one for each field; in a DictionaryBatch, isn't 1.
     #[error("the number of nodes isn't that of the schema's fields")]
     NodeCount = 18,
     /// *metadata*: the number of buffers isn't the one that docs/FORMAT.md, section 4, counts for the schema's fields.
@@ -99,7 +99,7 @@ pub enum Cause {
     /// *body*: a decimal of a reached valid slot isn't strictly between -10^precision and 10^precision.
     #[error("a decimal has more digits than its precision")]
     DecimalRange = 27,
-    /// *metadata*: a schema was declared for the stream, and the logical columns that came aren't its columns.
+    /// *metadata*: a schema was declared for the stream, and the stream's logical columns aren't its columns.
     #[error("a feed's schema isn't the declared one")]
     SchemaMismatch = 28,
     /// *any*: bytes come after the end mark, or after `finish`.
