@@ -51,7 +51,7 @@ fn pushes_bits(rt: HostRuntime) -> Result<(), Fail> {
     Ok(())
 }
 
-/// Whether bits that are added behind a few others are there in their order.
+/// Whether bits that are added after a few others are there in their order.
 #[tactic(auto, using(crate::proofs::Runs::runs))]
 fn adds_all(alloc: Global, before: usize, offset: usize, len: usize) -> Result<bool, AllocError>
     requires before { before < 64 }
@@ -74,7 +74,7 @@ fn adds_all(alloc: Global, before: usize, offset: usize, len: usize) -> Result<b
     Ok(all)
 }
 
-/// Bits that begin anywhere in a byte, behind bits that end anywhere in one.
+/// Bits that begin anywhere in a byte, after bits that end anywhere in one.
 #[test]
 fn adds_bits_behind_others(rt: HostRuntime) -> Result<(), Fail> {
     let alloc = rt.alloc();

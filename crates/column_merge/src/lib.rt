@@ -2,8 +2,8 @@
 //! batches can be released.
 //!
 //! The rows are written as the body of a batch (`body_writer`), the buffers of its arrays are found in it
-//! (`src/place.rt`), and each array is checked as a column that came in a message. That just the written rows are read
-//! is the law in `specs/Merged.antt`.
+//! (`src/place.rt`), and each array is checked as a column of a message is. That just the written rows are read is the
+//! law in `specs/Merged.antt`.
 #![tactic(auto)]
 
 mod laws;

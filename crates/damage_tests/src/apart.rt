@@ -75,7 +75,7 @@ fn values(rt: HostRuntime) -> Result<(), Fail> {
     Ok(())
 }
 
-/// The bytes from one place of a stream to another.
+/// The bytes from one offset of a stream to another.
 fn part<'a>(rt: &impl Abort, bytes: &'a [u8], from: usize, to: usize) -> &'a [u8] {
     assert!(rt; from <= to && to <= bytes.len());
     &bytes[from..to]

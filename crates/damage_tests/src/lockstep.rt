@@ -40,7 +40,7 @@ fn finish(rt: &impl Abort, feed: &mut Feed) -> Result<(), StreamFault> {
     feed.finish()
 }
 
-/// Pushes of one byte each, until one hands on an event.
+/// Pushes of one byte each, until one gives an event.
 fn push_bytes(rt: &impl Abort, feed: &mut Feed, bytes: &[u8]) -> Result<Fed, StreamFault> {
     for i in 0..bytes.len() {
         let Fed { used, event } = push(rt, feed, &bytes[i..i + 1])?;

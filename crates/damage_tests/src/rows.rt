@@ -14,7 +14,7 @@ fn outcome(rt: &(impl Abort + AllocGlobal), bytes: &[u8]) -> Result<Outcome, All
     feed_both(rt, bytes, bytes)
 }
 
-/// The end of the input after so many bytes of the sample stream.
+/// The end of the input after this many bytes of the sample stream.
 fn cuts(rt: &(impl Abort + AllocGlobal), sample: &[u8]) -> Result<(), AllocError> {
     for place in 0..=sample.len() {
         let expected = match place {

@@ -10,7 +10,7 @@ pub struct HexStream {
     pub messages: &'static [&'static str],
 }
 
-/// The bytes of a stream, and the place at which each of its messages ends.
+/// The bytes of a stream, and the offset at which each of its messages ends.
 #[derive(Drop)]
 pub struct Stream {
     pub name: &'static str,

@@ -23,7 +23,7 @@ fn cut_outcome(stream: &Stream, place: usize) -> Outcome {
     Outcome::Broken(StreamFault::Truncated)
 }
 
-/// Cuts the stream at each place, also after the last byte.
+/// Cuts the stream at each offset, also after the last byte.
 fn cuts(rt: &(impl Abort + AllocGlobal), stream: &Stream) -> Result<(), AllocError> {
     let name = stream.name;
     for place in 0..=stream.bytes.len() {
@@ -38,7 +38,7 @@ fn cuts(rt: &(impl Abort + AllocGlobal), stream: &Stream) -> Result<(), AllocErr
     Ok(())
 }
 
-/// Drops each byte in turn. What comes after it is out of place, so the stream is never accepted.
+/// Drops each byte in turn. What comes after it is shifted, so the stream is never accepted.
 fn drops(rt: &(impl Abort + AllocGlobal), stream: &Stream) -> Result<(), AllocError> {
     let name = stream.name;
     for place in 0..stream.bytes.len() {

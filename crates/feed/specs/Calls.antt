@@ -102,7 +102,7 @@ IsTypedComing fields j = IfSome j.coming (λ c. IsTypedEvent fields c.event)
 abbrev pub MayLackFor : FeedParts → List ℕ → Fed → Type 0
 MayLackFor f piece fed = IsSome fed.event → MayAnswer f piece (Err fault.Memory)
 
--- the values that a dictionary batch brings are of the type that its id has
+-- the values of a dictionary batch are of the type that its id has
 abbrev pub AreOfType : List (Rose Entry) → DictionaryHeader → List Datum → Type 0
 AreOfType fields d vs = (s : ColType) → value_type fields d.id ≡ Some s → All (Holds (value_layout s)) vs
 

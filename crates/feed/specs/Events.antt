@@ -21,13 +21,13 @@ use Rattle.feed.specs.Retained.{Retained}
 pub data Event : Type 0 where
   -- the columns
   schema : List (Rose Entry) → Event
-  -- the id, whether it is a delta, and how many values the batch brings
+  -- the id, whether it is a delta, and how many values the batch has
   dictionary : ℤ → Bool → ℕ → Event
   -- the cells of each column, the number of rows, and the length of the body
   batch : List (List Datum) → ℕ → ℕ → Event
   ended : Event
 
--- a dictionary batch of a stream with these columns, by the values that it brings
+-- a dictionary batch of a stream with these columns, by its values
 abbrev pub dictionary_event : List (Rose Entry) → DictionaryHeader → List ℕ → Reading Event
 dictionary_event fields d body = mapped (λ vs. dictionary d.id d.is_delta (length vs)) (values_of fields d body)
 

@@ -67,7 +67,7 @@ abbrev pub StoryKnowsSchema : Type 0
 StoryKnowsSchema = (k : Retained) (bytes : List ℕ) (fields : List (Rose Entry)) → k.known.schema ≡ Some fields
     → (rest_story k bytes).schema ≡ Some fields
 
--- the schema that comes among these events
+-- the schema among these events
 abbrev pub schema_in : List Event → Option (List (Rose Entry))
 schema_in [] = None
 schema_in (schema fields ∷ es) = Some fields

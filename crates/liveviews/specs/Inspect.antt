@@ -22,7 +22,7 @@ pub record Account : Type 0 where
 abbrev pub after_lines : List ℕ → Account → Account
 after_lines text a = record { lines = text ++ a.lines; end = a.end }
 
--- The end mark has its own line. Where none came, the end of the input has one.
+-- The end mark has its own line. Without one, the end of the input has one.
 abbrev pub last_line : Condition → List ℕ
 last_line condition.Opened = codes "end of input" ++ newline
 last_line _ = []

@@ -100,7 +100,7 @@ is_end (schema fields) = false
 is_end (dictionary id delta values) = false
 is_end (batch columns rows body) = false
 
--- The end mark came, where it had come before or not.
+-- The end mark was read, with this message or before.
 abbrev pub ended_after : Bool → Option Event → Bool
 ended_after before None = before
 ended_after before (Some e) = is_end e

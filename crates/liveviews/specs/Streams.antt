@@ -127,7 +127,7 @@ StreamsOn old new feed streaming piece left feed-after streaming-after =
     OfEachStreamed old feed streaming piece
     (λ start s later. HasStreamed start new s feed-after streaming-after (left ++ later))
 
--- a source that can't be read further, after so many bytes were put
+-- a source that can't be read to its end, after this many bytes were put
 abbrev pub unread_after : ℕ → FileFault → SourceFault
 unread_after written file.Unusable = source.Unreadable
 unread_after written file.Memory = source.Refused (record { cause = cause.Memory; written = written })

@@ -59,7 +59,7 @@ pub trait Files: Sink {
     /// A file that is open to be read. It is closed where it is dropped.
     type Input: Read + Drop;
 
-    /// A new file, which may take the place of another. It goes to `place` or to `discard`.
+    /// A new file, which may replace another. It is given to `place` or to `discard`.
     type New: Sink;
 
     /// What the file at a path holds, where the value knows it.
@@ -86,19 +86,19 @@ pub trait Files: Sink {
         ensures sunk { Self.sunk self.new ≡ Self.sunk self.old }
         ensures named { OnOk result (not_created self.new ≡ None) };
 
-    /// Closes the file that was named last. What is put then goes to no file, until another is named.
+    /// Closes the file that was named last. What is put then is written to no file, until another is named.
     fn close(&mut self)
         ensures { Self.sunk self.new ≡ Self.sunk self.old };
 
-    /// Begins a new file, which is to take the place of the one at `path` when it is whole. The one at `path` stays as
-    /// it is until then. `None`, with nothing done, where no new file can take its place, as that of a pipe.
+    /// Begins a new file, which is to replace the one at `path` when it is whole. The one at `path` stays as it is
+    /// until then. `None`, with nothing done, where no new file can replace it, as a pipe.
     fn begin_new(&mut self, path: &str) -> Result<Option<Self::New>, FileFault>
         ensures sunk { Self.sunk self.new ≡ Self.sunk self.old }
         ensures content { content self.new ≡ content self.old }
         ensures begins { IfOk result (λ found. IfSome found (λ file. Self.New.sunk file ≡ Self.sunk self.old)) };
 
-    /// Gives a new file the place of the one at `path`, so that all its bytes are put at once. Where that fails the new
-    /// file is discarded, and one failure is counted.
+    /// Replaces the file at `path` by a new file, so that all its bytes are put at once. Where that fails the new file
+    /// is discarded, and one failure is counted.
     fn place(&mut self, file: Self::New, path: &str) -> Result<(), DeviceFault>
         ensures placed { OnOk result (Self.sunk self.new ≡ Self.New.sunk file) }
         ensures failed { IfErr result (λ fault. Puts (Self.sunk self.old) (Self.sunk self.new) (Err fault) []) }

@@ -103,7 +103,7 @@ struct Rows {
 }
 
 impl Rows {
-    /// No rows yet, of which at most so many are to be printed.
+    /// No rows yet, of which at most `most` are to be printed.
     fn new(alloc: Global, form: Form, most: u64) -> Rows {
         Rows {
             alloc,
@@ -345,7 +345,7 @@ impl Showing {
             → IsShown result input) }
         ensures fault { IfErr result (λ e. (a : Account) → Remains a self.old.feed [] → IsFault a e) }
     {
-        // They do nothing: the proof takes from them that there is no event where no byte is left, and that the stream
+        // They do nothing: the proof takes from them that there is no event where no byte remains, and that the stream
         // has a fault where its account ends with one.
         pieces_law();
         account_law();
@@ -383,8 +383,8 @@ impl Showing {
     }
 }
 
-/// Prints the rows of the whole stream that a source holds, at most so many, reading it piece by piece. Where there is
-/// a fault, the rows before it were printed.
+/// Prints the rows of the whole stream that a source holds, at most `most` of them, reading it piece by piece. Where
+/// there is a fault, the rows before it were printed.
 pub(crate) fn show_from<R: Read, W: Write>(
     alloc: Global,
     source: &mut R,
@@ -394,7 +394,7 @@ pub(crate) fn show_from<R: Read, W: Write>(
 ) -> Result<(), ShowFault>
     ensures { OfSource (R.remaining source.old) (IsShown result) }
 {
-    // It does nothing: the proof takes from it that a fault stands in the stream where its account ends with one.
+    // It does nothing: the proof takes from it that the stream has a fault where its account ends with one.
     account_law();
     let Ok(mut out) = BufWriter::new(alloc, out) else {
         return Err(ShowFault::Source(FileFault::Memory));

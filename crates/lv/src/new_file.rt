@@ -185,6 +185,6 @@ pub fn place<R: std::rt::Files>(runtime: &R, new: NewFile<R::File>) -> io::Resul
 
 /// Removes a new file.
 pub fn remove<R: std::rt::Files>(runtime: &R, new: NewFile<R::File>) {
-    // Where it can't be removed, it stays beside the old file, under a name that says what it is.
+    // Where it can't be removed, it stays beside the old file, with a name that says what it is.
     let _ = fs::remove_file(runtime, new.path.as_str());
 }

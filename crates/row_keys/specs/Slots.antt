@@ -97,7 +97,7 @@ AreRetracted t (n ∷ ns) slots =
     × (is_among (key_in t (row_of slots n)) (keys_in t (live (put_back ns slots))) ≡ false)
     × HasKey t (row_of slots n)
 
--- and there is room for them
+-- and there is space for them
 unfoldable pub CanPutBack : Table → List ℕ → List Slot → Type 0
 CanPutBack t ns slots = AreRetracted t ns slots × (length (live (put_back ns slots)) ≤ t.max_rows)
 

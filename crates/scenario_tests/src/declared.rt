@@ -23,7 +23,7 @@ fn texts(alloc: Global, name: &str, offsets: OffsetWidth) -> Result<LogicalField
     })
 }
 
-/// The column `t` of texts and the column `l` of lists of texts, whatever is said of how they are stored.
+/// The column `t` of texts and the column `l` of lists of texts, in different stored forms.
 pub fn schema(alloc: Global, offsets: OffsetWidth, items: &str) -> Result<Schema, AllocError>
     ensures { IfOk result (λ s. s.fields.items ≡ text_fields) }
 {
@@ -47,7 +47,7 @@ fn write_columns(alloc: Global, sink: &mut MemorySink, schema: &Schema) -> Resul
     write_table(alloc, sink, schema, &[])
 }
 
-/// Whether a feed takes these bytes as the schema that was declared for it.
+/// Whether a feed accepts these bytes as the schema that was declared for it.
 fn takes(rt: &impl Abort, feed: &mut Feed, bytes: &[u8]) -> Result<bool, StreamFault> {
     let fed = push(rt, feed, bytes)?;
     Ok(matches!(fed.event, Some(FeedEvent::Schema(_))))

@@ -21,7 +21,7 @@ columns = [["k", "col", "k"], ["v", "col", "v"]]
 "#;
 
 /// The configuration `config`, the sample `stream`, and the lines of standard input, which are a script too. What is
-/// put goes to one file, whatever it is called.
+/// put is written to one file, whatever its name.
 #[derive(Drop)]
 struct Desk<'a> {
     alloc: Global,
@@ -60,7 +60,7 @@ impl Sink for Desk<'_> {
     }
 }
 
-/// A file that is read as it lies in memory.
+/// A file that is read from memory.
 #[derive(Drop)]
 struct Held<'a> {
     left: &'a [u8],
@@ -161,7 +161,7 @@ fn lines_of_a_script_are_run(rt: HostRuntime) -> Result<(), Fail> {
     Ok(())
 }
 
-/// Where a script writes a view to standard output, what is printed goes aside.
+/// Where a script writes a view to standard output, what is printed goes to standard error.
 #[test]
 fn answers_go_aside(rt: HostRuntime) -> Result<(), Fail> {
     let (status, _, desk) = run(&rt, &["run", "config", "-"], b"undo\nwrite t -")?;

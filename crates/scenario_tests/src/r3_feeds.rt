@@ -248,7 +248,7 @@ fn r3_mismatch(rt: HostRuntime) -> Result<(), Fail> {
     Ok(())
 }
 
-/// A message without the continuation bytes: its first 8 bytes show it, fewer do not.
+/// A message without the continuation bytes: its first 8 bytes reveal it, fewer do not.
 #[test]
 fn r1_framing(rt: HostRuntime) -> Result<(), Fail> {
     let start = [0xFE, 0xFF, 0xFF, 0xFF, 0xE0, 0, 0];

@@ -1,4 +1,4 @@
-//! A file whose place a new one takes.
+//! A file that a new one replaces.
 
 use crate::sample::SAMPLE;
 use crate::shelf::Shelf;
@@ -36,7 +36,7 @@ fn recast(
     Ok(())
 }
 
-/// The new file is whole when it takes the place of the old one.
+/// The new file is whole when it replaces the old one.
 #[test]
 fn whole_streams_are_placed(rt: HostRuntime) -> Result<(), Fail> {
     let mut shelf = shelf(rt.alloc(), &SAMPLE)?;
@@ -48,8 +48,8 @@ fn whole_streams_are_placed(rt: HostRuntime) -> Result<(), Fail> {
     Ok(())
 }
 
-/// A stream that is refused, a source that can't be read on, a new file that fails at each of its puts, and one that
-/// can't be placed: the old file stays as it is, and nothing was put.
+/// A stream that is refused, a source that can't be read to its end, a new file that fails at each of its puts, and one
+/// that can't replace the old: the old file stays as it is, and nothing was put.
 #[test]
 fn beginnings_are_thrown_away(rt: HostRuntime) -> Result<(), Fail> {
     let mut cut = shelf(rt.alloc(), &SAMPLE[..300])?;

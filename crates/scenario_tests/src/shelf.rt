@@ -12,7 +12,7 @@ use stream_writer::{DeviceFault, Sink};
 /// The file `in` with these bytes, the same files `interrupted` and `broken` with reads that fail, and the file `out`
 /// once it is made, with what was put to it. Nothing else can be read or made.
 ///
-/// Where `replaces` is set, there is a file `out` with the bytes `whole`, and a new one can take its place.
+/// Where `replaces` is set, there is a file `out` with the bytes `whole`, and a new one can replace it.
 #[derive(Drop)]
 pub struct Shelf<'a> {
     alloc: Global,
@@ -24,7 +24,7 @@ pub struct Shelf<'a> {
     pub whole: Vec<u8>,
     /// How many puts a new file takes before it fails.
     pub puts: u64,
-    /// Whether no new file can be given its place.
+    /// Whether no new file can replace the old one.
     pub is_stuck: bool,
     fault: Option<FileFault>,
     failures: u64,
@@ -57,7 +57,7 @@ impl<'a> Shelf<'a> {
 }
 
 impl Shelf<'_> {
-    /// Makes the file that was named, if it is not there yet. Answers whether it is there.
+    /// Makes the file that was named, if it is not there yet. Returns whether it is there.
     fn make(&mut self) -> bool
         ensures failures { self.new.failures ≡ self.old.failures }
         ensures written { self.new.written ≡ self.old.written }
@@ -93,7 +93,7 @@ enum Trouble {
     Nothing,
     /// Each read is interrupted once before it gives bytes.
     Interrupted,
-    /// No read gives bytes once fewer than 300 are left.
+    /// No read gives bytes once fewer than 300 remain.
     Broken,
 }
 
@@ -219,7 +219,7 @@ fn since(alloc: Global, bytes: &[u8], from: usize) -> Option<Vec<u8>> {
     Vec::from_slice(alloc, &bytes[from..]).ok()
 }
 
-/// A new file, behind what was put to the shelf before.
+/// A new file, after what was put to the shelf before.
 #[derive(Drop)]
 pub struct Draft {
     bytes: Vec<u8>,

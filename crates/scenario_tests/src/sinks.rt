@@ -28,7 +28,7 @@ fn r1_sink(rt: HostRuntime) -> Result<(), Fail> {
     Ok(())
 }
 
-/// A sink that takes one byte a put, and answers 0 after `puts` puts.
+/// A sink that takes one byte a put, and returns 0 after `puts` puts.
 #[derive(Drop)]
 struct Dwindling {
     bytes: Vec<u8>,
@@ -59,7 +59,7 @@ impl Sink for Dwindling {
     }
 }
 
-/// Recasts the sample to a sink, which stops after so many bytes.
+/// Recasts the sample to a sink, which stops after this many bytes.
 fn recast_to<S: Sink>(rt: &impl Abort, alloc: Global, sink: &mut S, written: u64) {
     let stopped = RecastFault {
         cause: Cause::Device,
@@ -68,7 +68,7 @@ fn recast_to<S: Sink>(rt: &impl Abort, alloc: Global, sink: &mut S, written: u64
     assert_eq!(rt; recast(alloc, &SAMPLE, sink), Err(stopped));
 }
 
-/// One byte a put: a sink that fails after n puts, and one that answers 0 there, hold the first n bytes.
+/// One byte a put: a sink that fails after n puts, and one that returns 0 there, hold the first n bytes.
 #[test]
 fn sinks(rt: HostRuntime) {
     for puts in 0..504usize {

@@ -1,4 +1,4 @@
-//! A whole stream at hand, recast and inspected.
+//! A whole stream in memory, recast and inspected.
 
 use crate::sample::SAMPLE;
 use liveviews::{RecastFault, inspect, recast};

@@ -43,7 +43,7 @@ StepStale old (step.Write name n) (reply.Write answer) new =
     × NoneBecomesStale old.tables.stale new.tables.stale
 StepStale old _ _ new = ⊥
 
--- What a step does: it leads to a state that the definition of a session allows, and keeps its bounds.
+-- What a step does: it leads to a state that the definition of a session allows, and stays within its bounds.
 pub record Does (old : SessionParts) (before : List Sunk) (s : Step) (r : Reply) (new : SessionParts)
     (after : List Sunk) : Type 0 where
   pub step : IsStep old (λ a b. Steps (config_of old) a before s r b after) new

@@ -133,7 +133,7 @@ left_after conf streams _ _ = streams
 abbrev pub BeginsWith : List ℕ → List ℕ → Type 0
 BeginsWith piece bytes = (rest : List ℕ) × (bytes ≡ piece ++ rest)
 
--- A feed that is broken or isn't declared consumes no bytes, so nothing is asked of what is offered to it.
+-- A feed that is broken or isn't declared consumes no bytes, so nothing is required of what is offered to it.
 abbrev pub is_unheard : Cause → Bool
 is_unheard cause.FeedBroken = true
 is_unheard cause.UnknownFeed = true

@@ -307,7 +307,7 @@ Steps conf s sinks (step.Write name n) (reply.Write answer) new after =
     WriteTo conf s sinks name.now n answer after × (new ≡ s)
 Steps conf s sinks _ _ new after = ⊥
 
--- A run: each step from the state that the one before left, with one reply a step.
+-- A run: each step from the state that the one before left, with one reply for each step.
 unfoldable pub Run : Config → State → List Sunk → List Step → List Reply → State → List Sunk → Type 0
 Run conf s sinks [] [] new after = (new ≡ s) × (after ≡ sinks)
 Run conf s sinks (step ∷ steps) (reply ∷ replies) new after =

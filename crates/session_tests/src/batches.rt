@@ -23,7 +23,7 @@ fn push_number(bytes: &mut Vec<u8>, number: usize) -> Result<(), AllocError> {
 }
 
 impl Body {
-    /// Adds a buffer, and fills up to eight bytes.
+    /// Adds a buffer, and pads it to eight bytes.
     fn push(&mut self, buffer: &[u8]) -> Result<(), AllocError> {
         push_number(&mut self.ranges, self.bytes.len())?;
         push_number(&mut self.ranges, buffer.len())?;

@@ -33,7 +33,7 @@ fn open(rt: &impl Abort, alloc: Global, text: &str) -> Result<Session, Fail> {
     Ok(Session::open(alloc, config.unwrap())?)
 }
 
-/// A session to which one batch came.
+/// A session with one batch.
 fn open_with(rt: &impl Abort, alloc: Global, entries: &[Entry]) -> Result<Session, Fail> {
     let mut session = open(rt, alloc, AMOUNTS)?;
     push(rt, session.push("add", &MAIN[..304]));
@@ -48,7 +48,7 @@ fn shown(rt: &impl Abort, alloc: Global, session: &mut Session, view: &str) -> M
     sink
 }
 
-/// Looks that a view shows just these rows, as a view of all rows does of a session that has no others.
+/// Checks that a view shows just these rows, as a view of all rows does in a session that has no others.
 fn shows(
     rt: &impl Abort,
     alloc: Global,
@@ -89,8 +89,8 @@ fn kept(alloc: Global, entries: &[Entry], is_below: bool) -> Result<Vec<Entry>, 
     Ok(kept)
 }
 
-/// A filter and its negation keep 31 of 70 rows each, and no row without an amount; no other rows are opened for them,
-/// and none for the view of all rows.
+/// 31 of 70 rows pass a filter, 31 its negation, and none without an amount; no other rows are opened for them, and
+/// none for the view of all rows.
 fn amounts(rt: &impl Abort, alloc: Global) -> Result<(), Fail> {
     let entries = seventy(alloc)?;
     let mut session = open_with(rt, alloc, &entries)?;
@@ -104,7 +104,7 @@ fn amounts(rt: &impl Abort, alloc: Global) -> Result<(), Fail> {
     Ok(())
 }
 
-/// Of an amount, none, and one below zero, the negation of a filter keeps the last alone.
+/// Of an amount, none, and one below zero, the last alone passes the negation of a filter.
 fn few_amounts(rt: &impl Abort, alloc: Global) -> Result<(), Fail> {
     let last = Entry {
         id: 3,
@@ -139,7 +139,7 @@ columns = [["k", "col", "k"]]
 filter = ["not", ["eq", "f", true]]
 "#;
 
-/// The rows whose flag is set are kept, those whose flag isn't are by the negation, and one without a flag by neither.
+/// The rows whose flag is set pass, those whose flag isn't pass the negation, and one without a flag neither.
 fn flags(rt: &impl Abort, alloc: Global) -> Result<(), Fail> {
     let mut session = open(rt, alloc, TRUTH_VALUES)?;
     push_all(rt, &mut session, &FLAGS);
@@ -170,7 +170,7 @@ columns = [["t", "col", "t"]]
 filter = ["ne", "t", "b"]
 "#;
 
-/// Of the texts `a`, `b` and `c`, where `c` came with another dictionary, all are kept but `b`.
+/// Of the texts `a`, `b` and `c`, where `c` is from another dictionary, all pass but `b`.
 fn replaced_texts(rt: &impl Abort, alloc: Global) -> Result<(), Fail> {
     let mut session = open(rt, alloc, REPLACED_TEXTS)?;
     push_all(rt, &mut session, &REPLACED);

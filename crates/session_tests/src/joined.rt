@@ -51,7 +51,7 @@ fn filled(rt: &impl Abort, alloc: Global) -> Result<Session, Fail> {
     Ok(session)
 }
 
-/// What is written where these rows came, as they are.
+/// What is written where just these rows were added.
 fn wanted(rt: &impl Abort, alloc: Global, rows: &[(u16, u8, u8)]) -> Result<MemorySink, Fail> {
     let mut session = open_of(rt, alloc, VIEWS)?;
     for (id, group, amount) in rows {
@@ -62,7 +62,7 @@ fn wanted(rt: &impl Abort, alloc: Global, rows: &[(u16, u8, u8)]) -> Result<Memo
     Ok(sink)
 }
 
-/// Rows are written with the cells of the rows that they look up, as if these had come so. Each is opened once.
+/// Rows are written with the cells of the rows that they look up, as if these had been added so. Each is opened once.
 #[test]
 fn zones_beside_rows(rt: HostRuntime) -> Result<(), Fail> {
     let alloc = rt.alloc();

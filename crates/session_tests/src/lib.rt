@@ -3,8 +3,8 @@
 //! `ledger` opens a session, and changes it row by row with the streams of `streams`; `batches` writes batches of many
 //! rows. The tests are `parts` (sessions that are taken apart and made again), `visits` (how often edits and writes
 //! open rows), `moves` (groups that move together where rows of a side table change), `filters` (which rows of a batch
-//! views keep), `stored` and `joined` (views that are written from stored columns, without and with those of a side
-//! table) and `sinks` (writes to sinks that fail). Nothing here is for other crates.
+//! pass the filters of views), `stored` and `joined` (views that are written from stored columns, without and with
+//! those of a side table) and `sinks` (writes to sinks that fail). Nothing here is for other crates.
 #![tactic(auto)]
 
 #[cfg(test)]

@@ -68,7 +68,7 @@ fn fresh(rt: &impl Abort, alloc: Global, zone: Option<u8>) -> Result<MemorySink,
     Ok(shown(rt, alloc, &mut session))
 }
 
-/// A put, its undo, a drop and its undo open no row, and the views are those of rows that came after the change.
+/// A put, its undo, a drop and its undo open no row, and the views are those of rows that were added after the change.
 #[test]
 fn moves_groups(rt: HostRuntime) -> Result<(), Fail> {
     let mut session = filled(&rt, rt.alloc(), Some(b'x'))?;
@@ -93,7 +93,7 @@ fn moves_groups(rt: HostRuntime) -> Result<(), Fail> {
     Ok(())
 }
 
-/// A row that goes after its group moved goes from where it moved to.
+/// A row that is deleted after its group moved is removed from the group to which it moved.
 #[test]
 fn retracts_from_where_it_moved(rt: HostRuntime) -> Result<(), Fail> {
     let mut session = filled(&rt, rt.alloc(), Some(b'x'))?;

@@ -47,7 +47,7 @@ fn make_again(rt: &impl Abort, alloc: Global, session: Session) -> Result<Sessio
     Ok(again)
 }
 
-/// Rows that tie in an order; one goes and comes back.
+/// Rows that tie in an order; one is deleted and inserted again.
 fn ties(rt: &impl Abort, alloc: Global) -> Result<(), Fail> {
     let mut session = open(rt, alloc)?;
     for id in 1..4u16 {
@@ -63,7 +63,7 @@ fn ties(rt: &impl Abort, alloc: Global) -> Result<(), Fail> {
     Ok(())
 }
 
-/// A group whose rows go one by one.
+/// A group whose rows are deleted one by one.
 fn groups(rt: &impl Abort, alloc: Global) -> Result<(), Fail> {
     let mut session = open(rt, alloc)?;
     session = make_again(rt, alloc, session)?;
@@ -133,8 +133,8 @@ fn read_cells(alloc: Global, store: &mut RowStore) -> Result<Vec<Key>, AllocErro
     Ok(keys)
 }
 
-/// A view of all rows, of which nothing is kept, opens each once. A store made again of its parts has the same rows,
-/// also those whose dictionary another took the place of.
+/// A view of all rows, of which nothing is stored, opens each once. A store made again of its parts has the same rows,
+/// also those whose dictionary another replaced.
 #[test]
 fn store_of_columns(rt: HostRuntime) -> Result<(), Fail> {
     let config = read_config(rt.alloc(), TEXTS);
@@ -162,7 +162,7 @@ fn store_of_columns(rt: HostRuntime) -> Result<(), Fail> {
     Ok(())
 }
 
-/// What the store of the main table keeps: batches, and the rows in them, gone ones too.
+/// What the store of the main table stores: batches, and the rows in them, released ones too.
 #[derive(Drop)]
 struct Kept {
     batches: usize,
@@ -190,8 +190,8 @@ fn count_kept(session: Session) -> Result<Kept, AllocError> {
     Ok(kept)
 }
 
-/// Rows go that no undo brings back, and their batches with them: of a hundred that came and were retracted those are
-/// left that edits retracted which can be undone. All of these come back.
+/// Rows that no undo brings back are released, with their batches: of a hundred that were appended and retracted those
+/// remain whose retracts can be undone. All of these can be restored.
 #[test]
 fn rows_that_went(rt: HostRuntime) -> Result<(), Fail> {
     let mut session = open(&rt, rt.alloc())?;
@@ -219,7 +219,7 @@ fn rows_that_went(rt: HostRuntime) -> Result<(), Fail> {
     Ok(())
 }
 
-/// Rows that came one by one lie in few batches.
+/// Rows that were added one by one lie in few batches.
 #[test]
 fn rows_that_came_one_by_one(rt: HostRuntime) -> Result<(), Fail> {
     let mut session = open(&rt, rt.alloc())?;
@@ -241,8 +241,8 @@ fn rows_that_came_one_by_one(rt: HostRuntime) -> Result<(), Fail> {
     Ok(())
 }
 
-/// Most rows of the batches go, and what is left is written anew. The views show the same, and the rows that an undo
-/// brings back are there.
+/// Most rows of the batches are released, and the remaining ones are rewritten. The views show the same, and the rows
+/// that an undo brings back are there.
 #[test]
 fn few_rows_that_stayed(rt: HostRuntime) -> Result<(), Fail> {
     let mut session = open(&rt, rt.alloc())?;
@@ -274,8 +274,8 @@ fn few_rows_that_stayed(rt: HostRuntime) -> Result<(), Fail> {
     Ok(())
 }
 
-/// Keys go with the last row that no undo brings back. Rows come again under keys that went, are found by them, and are
-/// refused while they are live.
+/// Keys are dropped with the last row that no undo brings back. Rows are added again with dropped keys, are found by
+/// them, and are refused while they are live.
 #[test]
 fn keys_that_went(rt: HostRuntime) -> Result<(), Fail> {
     let mut session = open(&rt, rt.alloc())?;
@@ -305,7 +305,8 @@ fn keys_that_went(rt: HostRuntime) -> Result<(), Fail> {
     Ok(())
 }
 
-/// The same rows come in two orders, with more values in a group than a list keeps, and all but three go again.
+/// The same rows are added in two orders, with more values in a group than a list has, and all but three are removed
+/// again.
 #[test]
 fn many_values(rt: HostRuntime) -> Result<(), Fail> {
     let mut session = open(&rt, rt.alloc())?;

@@ -21,7 +21,7 @@ role = "append"
 columns = [["k", "col", "k"], ["v", "col", "v"]]
 "#;
 
-/// A sink that takes one byte a put, and answers 0 after `puts` puts.
+/// A sink that takes one byte a put, and returns 0 after `puts` puts.
 #[derive(Drop)]
 struct Dwindling {
     bytes: Vec<u8>,
@@ -74,7 +74,7 @@ fn fail_after(rt: &impl Abort, alloc: Global, session: &mut Session, taken: &[u8
     assert_eq!(rt; sink.bytes(), taken);
 }
 
-/// Writes the view to a sink that takes one byte a put and answers 0 after these.
+/// Writes the view to a sink that takes one byte a put and returns 0 after these.
 fn dwindle_after(rt: &impl Abort, alloc: Global, session: &mut Session, taken: &[u8]) {
     let mut sink = Dwindling {
         bytes: Vec::new(alloc),

@@ -37,7 +37,7 @@ fn entry(id: u8, amount: Option<i64>) -> Entry {
     Entry { id, amount }
 }
 
-/// A session to which these batches came.
+/// A session with these batches.
 fn filled(rt: &impl Abort, alloc: Global, batches: &[&[Entry]]) -> Result<Session, Fail> {
     let mut session = open_of(rt, alloc, VIEWS)?;
     for entries in batches {
@@ -47,7 +47,7 @@ fn filled(rt: &impl Abort, alloc: Global, batches: &[&[Entry]]) -> Result<Sessio
 }
 
 /// Rows of several batches, of which one is retracted, are written in the view's order and in the order of its columns,
-/// as if they had come so. Each is opened once.
+/// as if they had been added so. Each is opened once.
 #[test]
 fn rows_of_several_batches(rt: HostRuntime) -> Result<(), Fail> {
     let alloc = rt.alloc();

@@ -11,7 +11,7 @@ pub fn opened(session: &Session, before: u128) -> u128 {
     session.visits().saturating_sub(before)
 }
 
-/// Writes a view, and answers how many rows it opened.
+/// Writes a view, and returns how many rows it opened.
 pub fn write(rt: &impl Abort, session: &mut Session, view: &str, sink: &mut MemorySink) -> u128 {
     let before = session.visits();
     let written = session.write_view(view, sink);
@@ -88,7 +88,7 @@ fn r9_rows(rt: HostRuntime) -> Result<(), Fail> {
     Ok(())
 }
 
-/// A group passes, fails and passes again, and another comes to pass: no write opens a row.
+/// A group passes, fails and passes again, and another begins to pass: no write opens a row.
 #[test]
 fn r15_rows(rt: HostRuntime) -> Result<(), Fail> {
     let mut session = open(&rt, rt.alloc())?;

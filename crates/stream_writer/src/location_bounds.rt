@@ -44,7 +44,7 @@ fn bound_column(layout: &LayoutTree, j: usize, batches: &[&Batch]) -> Option<u64
 }
 
 /// Whether each of these rows is so light that a batch of 1,024 of them is within the limit on weight. Each column is
-/// gone through once. Where rows are light, but have lists or structs, it isn't known.
+/// read once. Where rows are light, but have lists or structs, it isn't known.
 pub(crate) fn are_light_joined(layouts: &[LayoutTree], columns: &[usize], rows: &JoinedRows) -> bool
     requires many { length columns.now ≡ length layouts.now }
     requires have { HaveJoined columns.now rows.now }

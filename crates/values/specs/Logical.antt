@@ -54,7 +54,7 @@ abbrev mutual
   logical_below parent none = none
   logical_below parent (more f fs) = more (logical_in parent f) (logical_below parent fs)
 
--- a column: it keeps its name
+-- a column, with its own name
 abbrev pub logical_column : Rose NamedType → Rose NamedType
 logical_column = logical_in col.Struct
 

@@ -129,7 +129,7 @@ impl Inspection {
         ensures fault { IfErr result (λ f. (a : Account) → IsLeft a self.old []
             → Breaks a (string_bytes self.new.text) f) }
     {
-        // It does nothing: the proof takes from it that there is no event where no byte is left.
+        // It does nothing: the proof takes from it that there is no event where no byte remains.
         pieces_law();
         self.feed.finish()?;
         if !self.ended {
@@ -200,7 +200,7 @@ pub fn inspect(alloc: Global, input: &[u8]) -> Result<Inspected, AllocError>
     ensures tells { IfOk result (λ i. ReportsAccount (account_of input.now) (string_bytes i.text) i.status) }
     ensures status { IfOk result (λ i. i.status ≡ status_where (story_of input.now).end) }
 {
-    // It does nothing: the proof takes from it that a fault stands in the stream where its account ends with one.
+    // It does nothing: the proof takes from it that the stream has a fault where its account ends with one.
     account_law();
     let mut inspection = Inspection::new(alloc);
     let ran = inspection.run(input);
@@ -215,7 +215,7 @@ pub fn inspect(alloc: Global, input: &[u8]) -> Result<Inspected, AllocError>
 pub fn inspect_from<R: Read>(alloc: Global, source: &mut R) -> Result<Inspected, FileFault>
     ensures { IfOk result (λ i. InspectsFile (R.remaining source.old) (string_bytes i.text) i.status) }
 {
-    // It does nothing: the proof takes from it that a fault stands in the stream where its account ends with one.
+    // It does nothing: the proof takes from it that the stream has a fault where its account ends with one.
     account_law();
     let mut inspection = Inspection::new(alloc);
     let ran = inspection.run_from(alloc, source)?;

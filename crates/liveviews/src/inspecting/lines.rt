@@ -95,7 +95,7 @@ fn write_event(text: &mut String, event: &FeedEvent) -> Result<(), AllocError>
     }
 }
 
-/// Writes the lines of a message, if one came.
+/// Writes the lines of a message, if there is one.
 pub(crate) fn write_fed(text: &mut String, fed: &Fed) -> Result<(), AllocError>
     ensures { OnOk result (string_bytes text.new ≡ string_bytes text.old
         ++ given_lines (option_map event_seen fed.now.event)) }

@@ -75,8 +75,8 @@ fn read_between<R: Read>(
     Ok(count)
 }
 
-/// Reads the next bytes of a source behind the first `len` of `room`, of which `most` are wanted in all, and returns
-/// how many. The buffer grows by as much as was read.
+/// Reads the next bytes of a source after the first `len` of `room`, of which `most` are wanted in all, and returns how
+/// many. The buffer grows by as much as was read.
 fn read_behind<R: Read>(
     source: &mut R,
     room: &mut Vec<u8>,

@@ -55,14 +55,14 @@ use stream_writer::{Sink, TableWriter};
 use values::Cause;
 use values::limits::MAX_MAIN_ROWS;
 
-/// A stream that is recast while it is read: its writer, from the first batch on, and how many rows came.
+/// A stream that is recast while it is read: its writer, from the first batch on, and how many rows were read.
 #[derive(Drop)]
 struct Streaming {
     writer: Option<TableWriter>,
     rows: usize,
 }
 
-/// Begins the writer of a stream of which no row came yet: `NoSchema` where it has no schema either.
+/// Begins the writer of a stream without rows so far: `NoSchema` where it has no schema either.
 fn begin_writer<S: Sink>(
     alloc: Global,
     feed: &Feed,

@@ -115,7 +115,7 @@ impl ScriptRunner {
         self.line = self.line.saturating_add(1);
     }
 
-    /// The program's exit status, if no line is left.
+    /// The program's exit status, if no line remains.
     pub(crate) fn status(&self) -> u8
         ensures { result ≤ 1 }
     {
