@@ -144,7 +144,7 @@ fn coded_numbers(rt: HostRuntime) -> Result<(), Fail> {
     Ok(())
 }
 
-/// A filter names none but the first columns where these include all that it names, and not otherwise.
+/// A filter is within as many columns as it names, and not within fewer.
 #[test]
 fn columns_of_filters(rt: HostRuntime) -> Result<(), Fail> {
     let alloc = rt.alloc();

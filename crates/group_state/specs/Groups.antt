@@ -1,4 +1,4 @@
--- What is stored of rows in groups.
+-- What is stored for rows in groups.
 use Rattle.std.specs.Prelude.{◌≡◌, ◌<◌, List, [], Option, None, Some}
 use Rattle.std.specs.Map.{lookup}
 use Rattle.std.specs.BTreeMap.{is_at}

@@ -23,7 +23,7 @@ use Rattle.group_state.specs.Rows.{KeepsRows}
 abbrev pub filled : List Datum → List Datum
 filled ds = filter (λ d. not (is_null d)) ds
 
--- a column of the output can be computed from what is stored of these rows
+-- a column of the output can be computed from what is stored for these rows
 pub record CanRead (columns : List AccumulatedColumn) (rows : List (List Datum)) (out : Aggregate) : Type 0 where
   pub kept : IsAccumulated columns out
   pub sums : SumFits out rows

@@ -18,7 +18,7 @@ use std::alloc::{AllocError, Global};
 use std::marker::Model;
 use view_lang::RowView;
 
-/// What is stored of a group: the number of its rows, and a tally of each column that outputs read.
+/// What is stored for a group: the number of its rows, and a tally of each column that outputs read.
 #[derive(Debug, Drop)]
 pub struct Group {
     rows: u64,

@@ -1,7 +1,7 @@
 //! Groups of rows, kept current by changes of the rows: how many rows each has, and what is counted, summed and
 //! compared of its columns.
 //!
-//! `specs/Groups.antt` says when groups are those of some rows, over `Rows` (what is stored of one group) and `Cells`
+//! `specs/Groups.antt` says when groups are those of some rows, over `Rows` (what is stored for one group) and `Cells`
 //! (of one column); `specs/Moves.antt` when a group is that of some of the rows, which can then be added or removed all
 //! at once. `specs/Reading.antt` says what must hold so that group rows can be read; they are those of `view_lang`.
 #![tactic(auto)]

@@ -22,7 +22,7 @@ use std::alloc::{AllocError, Global};
 use values::{CellView, Key, Value};
 use view_lang::RowView;
 
-/// What is stored of a column of a group, in one form.
+/// What is stored for a column of a group, in one form.
 #[derive(Debug, Drop)]
 pub enum Tally {
     /// How many cells aren't null, and their sum.

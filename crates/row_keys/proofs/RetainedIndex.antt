@@ -1,4 +1,4 @@
--- What holds of the index of rows by number, where entries are stored of rows.
+-- What holds of the index of rows by number, where entries are stored for rows.
 use Rattle.std.proofs.Common.{◌≡◌, ℕ, ◌<◌, ◌+◌, ◌++◌, Bool, true, false, List, [], ◌∷◌, Option, None, Some, get_or, length, ap, sym, subst, ◌∙◌, arith, true≢false}
 use Rattle.std.specs.Prelude.{◌-◌, ◌^◌, ◌≤◌, slice_get, slice_set}
 use Rattle.std.proofs.lemmas.List.{length-map}

@@ -1,4 +1,4 @@
--- What is stored of rows by number: nothing of those that are released.
+-- What is stored for rows by number: nothing of those that are released.
 use Rattle.std.specs.Prelude.{◌≡◌, ◌⊎◌, ℕ, suc, ◌≤◌, ◌++◌, ◌||◌, Bool, nat_lt, true, false, if◌then◌else◌, nat_eq, List, [], ◌∷◌, Some, slice_get}
 use Rattle.row_keys.specs.Listed.{listed}
 use Rattle.row_keys.specs.declared.numbers.Entry.{Entry}

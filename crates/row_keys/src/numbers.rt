@@ -53,7 +53,7 @@ use std::alloc::{AllocError, Global};
 use std::marker::Model;
 use values::Key;
 
-/// What is stored of a row: the position of its key in the table of keys, whether it is live, and whether its key was
+/// What is stored for a row: the position of its key in the table of keys, whether it is live, and whether its key was
 /// added to that table with it.
 #[derive(Clone, Copy, Debug)]
 struct Entry {
@@ -62,7 +62,7 @@ struct Entry {
     is_new: bool,
 }
 
-/// The number of a row, and what is stored of it.
+/// The number of a row, and what is stored for it.
 #[derive(Clone, Copy, Debug)]
 struct RetainedEntry {
     number: usize,
@@ -241,7 +241,7 @@ fn set_live(kept: &mut Vec<RetainedEntry>, number: usize, is_live: bool)
     }
 }
 
-/// Marks the row of this number released. It returns whether its entry is retained.
+/// Marks the entry of the row of this number as that of a released row. It returns whether there is one.
 fn forget(kept: &mut Vec<RetainedEntry>, number: usize) -> bool
     requires order { (len : ℕ) × AreInOrder 0 kept.old.items len }
     ensures order { (len : ℕ) → AreInOrder 0 kept.old.items len → AreInOrder 0 kept.new.items len }
@@ -320,7 +320,7 @@ fn sweep(kept: &mut Vec<RetainedEntry>)
     );
 }
 
-/// What is stored of a row.
+/// What is stored for a row.
 fn row_of(alloc: Global, keys: &KeyTable, one: &RetainedEntry) -> Result<RowParts, AllocError>
     requires { one.now.entry.key < length keys.now }
     ensures { IfOk result (λ row. row ≡ part_of keys.now one.now) }
@@ -332,7 +332,7 @@ fn row_of(alloc: Global, keys: &KeyTable, one: &RetainedEntry) -> Result<RowPart
     })
 }
 
-/// What is stored of all retained rows.
+/// What is stored for all retained rows.
 fn rows_of(
     alloc: Global,
     keys: &KeyTable,
@@ -414,7 +414,7 @@ impl Numbers {
         self.keys.get(entry.key).unwrap()
     }
 
-    /// What is stored of the rows, by their numbers.
+    /// What is stored for the rows, by their numbers.
     pub(crate) fn retained_rows(&self, alloc: Global) -> Result<Vec<RowParts>, AllocError>
         ensures order { IfOk result (λ rows. AreNumbered 0 rows.items (length self.now)) }
         ensures rows { IfOk result (λ rows. numbers_in rows.items (length self.now) ≡ self.now) }

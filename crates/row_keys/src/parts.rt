@@ -17,7 +17,7 @@ pub struct StoreParts {
     pub table: Table,
     /// Where the rows lie, by their numbers.
     pub chunks: Vec<StoredChunk>,
-    /// What is stored of the rows besides their cells, by their numbers. Released rows need not be among them.
+    /// What is stored for the rows besides their cells, by their numbers. Released rows need not be among them.
     pub rows: Vec<RowParts>,
     /// How many rows were appended: the next number.
     pub appended: usize,
@@ -25,7 +25,7 @@ pub struct StoreParts {
     pub visits: u128,
 }
 
-/// What is stored of a row besides its cells: its number, its key, and whether it is live.
+/// What is stored for a row besides its cells: its number, its key, and whether it is live.
 #[derive(Drop)]
 pub struct RowParts {
     pub number: usize,

@@ -16,7 +16,7 @@ session_with p =
       records = p.records.items;
     }
 
--- They are those of a session: it represents some state, and each view is stale, or what is stored of it is computed
+-- They are those of a session: it represents some state, and each view is stale, or what is stored for it is computed
 -- from the live rows of the stores.
 pub record AreParts (p : Taken) : Type 0 where
   pub tables : AreLiveParts p.tables

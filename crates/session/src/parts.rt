@@ -6,7 +6,7 @@ use upkeep::LiveTablesParts;
 use values::Schema;
 use view_lang::FeedConfig;
 
-/// The parts of a `Session`. The stores of its tables alone hold rows: what is stored of the views, and the undo
+/// The parts of a `Session`. The stores of its tables alone hold rows: what is stored for the views, and the undo
 /// records, refer to rows of the main table by number.
 #[derive(Drop)]
 pub struct SessionParts {

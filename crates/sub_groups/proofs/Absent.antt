@@ -18,7 +18,7 @@ absent test [] h = refl
 absent test (e ∷ es) h =
     absent_by (test e.0) e es (remove_entry test es) (lookup test es) (λ n. absent test es n) h
 
--- What is stored of the rows stays where no row is inserted, and none was there.
+-- What is stored for the rows stays where no row is inserted, and none was there.
 pub none_kept : (s : Grouped) (n : ℕ) (rows : NumberedRows) (row : Option (List Datum)) → row ≡ None → row_at n rows ≡ None
     → Keeps s (values_of rows) → Keeps s (values_of (with_at n row rows))
 none_kept s n rows row none free kept =

@@ -1,4 +1,4 @@
--- Views that show each row of the main table in the order of the numbers.
+-- Views that show each row of the main table in the order of row numbers.
 use Rattle.std.proofs.Common.{◌≡◌, ℕ, zero, suc, true, List, [], ◌∷◌, ◌++◌, Option, None, Some, map, replicate, take, refl, ap, ap₂, sym, subst, true≢false, ◌∙◌}
 use Rattle.std.specs.Cmp.{nat_cmp_total}
 use Rattle.std.specs.List.{AllByRecursion}
@@ -173,7 +173,7 @@ pub order_is_plain : (Each : Type 0) (os : Outputs) (order : List OrderBy) (o : 
 order_is_plain Each (columns outs) order o rows k = refl
 order_is_plain Each (groups by outs having) order o rows k = absurd k
 
--- What is stored of such a view is that of any rows.
+-- What is stored for such a view is that of any rows.
 
 pub still_live : (v : View) (k : Materialized) (old new : NumberedRows) → k ≡ kept.Live → IsMaterialized v k old → IsMaterialized v k new
 still_live v k old new is live =

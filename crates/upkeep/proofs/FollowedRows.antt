@@ -1,4 +1,4 @@
--- What is stored of a view through changes of the main table's rows.
+-- What is stored for a view through changes of the main table's rows.
 use Rattle.std.proofs.Common.{◌≡◌, ℕ, suc, ◌<◌, ◌≤◌, false, List, [], ◌∷◌, Option, None, Some, get_or, length, map, refl, ap, sym, subst, ◌∙◌, arith}
 use Rattle.std.proofs.lemmas.List.{length-map}
 use Rattle.values.specs.Datum.{Datum}
@@ -35,7 +35,7 @@ use Rattle.upkeep.specs.declared.view_state.Links.TheVariants as links
 use Rattle.upkeep.specs.declared.view_state.Turn.TheVariants as turn
 use Rattle.upkeep.specs.declared.view_state.ViewState.{ViewState}
 
--- what is stored of a view's projected rows
+-- what is stored for a view's projected rows
 
 longer : (n k : ℕ) (o : Option (List Datum)) (rows : NumberedRows) → length rows ≤ k
     → length (image_by n o rows) ≤ suc k
@@ -54,7 +54,7 @@ image_few make rows change few =
     let same : length (map (shift_image make) change) ≡ length change = length-map change (shift_image make) in
     omega (arith, few, shorter, same)
 
--- a change fits what is stored of the rows that it fits
+-- a change fits what is stored for the rows that it fits
 pub follow_needs :
     (law : ImageFits) (tables : List Table) (v : View) (side : Side) (s : ViewState) (change : List Shift)
     (rows : NumberedRows) → IsCurrent tables v side s rows → Fits rows change → IsFew rows change → s.stale ≡ false

@@ -191,7 +191,7 @@ same_tuple (k ∷ ks) a b same =
     ap₂ (λ x xs. x ∷ xs) (ap key_in (All-head (λ j. cell_at a j ≡ cell_at b j) k ks same))
     (same_tuple ks a b (All-tail (λ j. cell_at a j ≡ cell_at b j) k ks same))
 
--- What is stored of a view
+-- What is stored for a view
 
 order_kept :
     (Shows : Type 0) (outs : List Output) (order : List OrderBy) (o : OrderedEntries) (n : ℕ) (a b : List Datum)

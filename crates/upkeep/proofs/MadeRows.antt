@@ -1,4 +1,4 @@
--- What is stored of a view, and the rows that it shows.
+-- What is stored for a view, and the rows that it shows.
 use Rattle.std.proofs.Common.{
   ◌≡◌,
   ℕ,

@@ -26,7 +26,7 @@ CanTurn keeps change = (rows : NumberedRows) × (keeps rows × (Fits rows change
 abbrev pub CanFollowMain : (NumberedRows → Type 0) → List Shift → Type 0
 CanFollowMain keeps change = (rows : NumberedRows) × (keeps rows × (Fits rows change × (length rows ≤ max_main_rows)))
 
--- what is stored of a view's projected rows
+-- what is stored for a view's projected rows
 abbrev pub MaterializedFollows : View → Materialized → Materialized → List Shift → Type 0
 MaterializedFollows v old new change = Follows (IsMaterialized v old) (IsMaterialized v new) change
 

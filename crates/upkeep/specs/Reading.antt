@@ -24,7 +24,7 @@ use Rattle.upkeep.specs.declared.view_state.Materialized.TheVariants as kept
 abbrev pub projected_at : View → Side → List Slot → List ℕ → List (List Datum)
 projected_at v side slots numbers = filter_map (λ n. projected_row v side (row_of slots n)) numbers
 
--- What is stored of a view is computed from the live rows of the main table, which can be viewed.
+-- What is stored for a view is computed from the live rows of the main table, which can be viewed.
 pub record IsReadable (tables : List Table) (v : View) (side : Side) (slots : List Slot)
     (k : Materialized) : Type 0 where
   pub viewed : Viewed tables v side (live slots)

@@ -1,4 +1,4 @@
--- What is stored of a view.
+-- What is stored for a view.
 use Rattle.std.specs.Prelude.{
   ◌≡◌,
   ℕ,
@@ -80,7 +80,7 @@ abbrev pub is_plain : Outputs → Bool
 is_plain (columns outputs) = true
 is_plain (groups by outputs having) = false
 
--- A view shows each row of the main table in the order of the numbers: it is plain, has no order and no filter, and
+-- A view shows each row of the main table in the order of row numbers: it is plain, has no order and no filter, and
 -- leaves no row out.
 pub record ShowsEach (v : View) : Type 0 where
   pub plain : is_plain v.outputs ≡ true
@@ -100,11 +100,11 @@ IsMaterializedBy Each (kept.Groups g) (groups by outputs having) order rows =
     × (g.ranking ≡ ranking_by outputs having order)
     × KeepsRanked g (values_of rows)
 
--- What is stored of a view is that of these numbered rows.
+-- What is stored for a view is that of these numbered rows.
 abbrev pub IsMaterialized : View → Materialized → NumberedRows → Type 0
 IsMaterialized v k rows = IsMaterializedBy (ShowsEach v) k v.outputs v.order rows
 
--- What is stored of a view is computed from those of these rows of the main table that are live.
+-- What is stored for a view is computed from those of these rows of the main table that are live.
 abbrev pub IsMaterializedLive : View → Materialized → Side → List Slot → Type 0
 IsMaterializedLive v k side slots = IsMaterialized v k (image (projected_row v side) (numbered slots))
 

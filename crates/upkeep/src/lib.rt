@@ -2,7 +2,7 @@
 //! rows of a view are read from its state.
 //!
 //! `specs/Stores.antt` says which tables and rows stores hold, `TableChanges` of `row_keys` what edits do to them,
-//! `specs/Inputs.antt` what a view makes of a row, `specs/ViewStates.antt` what is stored of a view,
+//! `specs/Inputs.antt` what a view makes of a row, `specs/ViewStates.antt` what is stored for a view,
 //! `specs/Reading.antt` and `specs/Shown.antt` what is read from it, `specs/LiveEdits.antt` what edits do to tables and
 //! views together, and `specs/ViewParts.antt` and `specs/TablesParts.antt` of which parts all of it consists.
 #![tactic(auto)]

@@ -95,7 +95,7 @@ pub struct LiveTables {
     // The store of the main table comes first.
     stores: Vec<RowStore>,
     views: Vec<View>,
-    // What is stored of each view.
+    // What is stored for each view.
     states: Vec<ViewState>,
 }
 

@@ -7,7 +7,7 @@ use row_keys::RowStore;
 use top_rows::OrderedParts;
 use view_lang::View;
 
-/// What is stored of a view, and whether it is stale. It holds no row of a table, but numbers of rows.
+/// What is stored for a view, and whether it is stale. It holds no row of a table, but numbers of rows.
 #[derive(Debug, Drop)]
 pub struct ViewParts {
     pub stale: bool,
@@ -15,7 +15,7 @@ pub struct ViewParts {
     pub links: LinksParts,
 }
 
-/// What is stored of the rows of the main table by the key that they look up.
+/// What is stored for the rows of the main table by the key that they look up.
 #[derive(Debug, Drop)]
 pub enum LinksParts {
     /// Their numbers; none where the view looks up no table.
@@ -24,10 +24,10 @@ pub enum LinksParts {
     SubGroups(GroupsParts),
 }
 
-/// What is stored of the projected rows of a view: their order, or their groups.
+/// What is stored for the projected rows of a view: their order, or their groups.
 #[derive(Debug, Drop)]
 pub enum MaterializedParts {
-    /// Nothing, for a plain view that shows each live row in the order of the numbers.
+    /// Nothing, for a plain view that shows each live row in the order of row numbers.
     Live,
     /// The entries of the rows of a plain view in its order.
     Order(OrderedParts),
@@ -39,6 +39,6 @@ pub enum MaterializedParts {
 pub struct LiveTablesParts {
     pub stores: Vec<RowStore>,
     pub views: Vec<View>,
-    /// What is stored of each view.
+    /// What is stored for each view.
     pub states: Vec<ViewParts>,
 }

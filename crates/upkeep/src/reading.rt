@@ -143,7 +143,7 @@ fn make_rows(
     Ok(made)
 }
 
-/// The numbers of the rows that a plain view shows where it shows each row in the order of the numbers.
+/// The numbers of the rows that a plain view shows where it shows each row in the order of row numbers.
 fn first_live(alloc: Global, stores: &[RowStore], view: &View) -> Result<Vec<usize>, AllocError>
     requires { 0 < length stores.now }
     ensures { IfOk result (λ first. (tables : List Table) (side : Side)
@@ -358,7 +358,7 @@ fn show_first(
     show_numbers(alloc, stores, view, numbers)
 }
 
-/// What a plain view shows where it shows each row in the order of the numbers.
+/// What a plain view shows where it shows each row in the order of row numbers.
 fn show_live(alloc: Global, stores: &mut Vec<RowStore>, view: &View) -> Result<Shown, AllocError>
     requires main { 0 < length stores.old.items }
     requires kept { IsReadable (tables_in stores.old.items) view.now (side_from stores.old.items view.now)

@@ -36,7 +36,7 @@ fn is_reprojected_alike(
     }
 }
 
-/// Updates what is stored of a view for a row of the main table whose joined row changes from one to the other; each is
+/// Updates what a view stores for a row of the main table whose joined row changes from one to the other; each is
 /// `None` where the view leaves the row out. Where the same is stored for both, nothing is touched. After an error what
 /// is stored is meaningless.
 fn remake_row(

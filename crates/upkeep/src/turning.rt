@@ -1,4 +1,4 @@
-//! Updates what is stored of a view for one row that is inserted or deleted, where the row lies.
+//! Updates what a view stores for one row that is inserted or deleted, where the row lies.
 
 ghost use Rattle.std.specs.Prelude.{◌≡◌, ◌<◌, ◌∷◌, [], OnOk, Some};
 ghost use Rattle.std.specs.Map.{values_of};
@@ -85,7 +85,7 @@ fn turn_groups<R: RowView>(
     }
 }
 
-/// Updates what is stored of a view for a joined row that passes the view's filter. After an error it is meaningless.
+/// Updates what a view stores for a joined row that passes the view's filter. After an error it is meaningless.
 fn turn_row<R: RowView>(
     view: &View,
     kept: &mut Materialized,
@@ -113,8 +113,8 @@ fn turn_row<R: RowView>(
     }
 }
 
-/// Updates what is stored of a view for a row of the main table that is inserted or deleted, joined; `None` changes
-/// nothing: the view leaves the row out. After an error what is stored is meaningless.
+/// Updates what a view stores for a row of the main table that is inserted or deleted, joined; `None` changes nothing:
+/// the view leaves the row out. After an error what is stored is meaningless.
 pub(crate) fn turn_joined<R: RowView>(
     view: &View,
     kept: &mut Materialized,

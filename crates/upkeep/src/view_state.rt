@@ -1,4 +1,4 @@
-//! States of views: what is stored of each.
+//! States of views: what is stored for each.
 
 ghost use Rattle.std.specs.Prelude.{◌≡◌, [], false, IfOk, IfSome, List, None, true};
 ghost use Rattle.view_lang.specs.OutputsSeen.{outputs_of};
@@ -23,10 +23,10 @@ use sub_groups::SubGroups;
 use top_rows::Ordered;
 use view_lang::{Lookup, Missing, Outputs, View};
 
-/// What is stored of the projected rows of a view: their order, or their groups and the order of the groups' rows.
+/// What is stored for the projected rows of a view: their order, or their groups and the order of the groups' rows.
 #[derive(Debug, Drop)]
 pub(crate) enum Materialized {
-    /// Nothing, for a plain view that shows each row in the order of the numbers: the numbers of the live rows are its
+    /// Nothing, for a plain view that shows each row in the order of row numbers: the numbers of the live rows are its
     /// order.
     Live,
     /// The entries of the rows of a plain view in its order.
@@ -42,7 +42,7 @@ pub(crate) enum Turn {
     Go,
 }
 
-/// The state of a view: what is stored of it, and whether it is stale. What is stored of a stale view is meaningless;
+/// The state of a view: what is stored for it, and whether it is stale. What is stored for a stale view is meaningless;
 /// it is built anew before the view is read.
 #[derive(Debug, Drop)]
 pub(crate) struct ViewState {
@@ -51,7 +51,7 @@ pub(crate) struct ViewState {
     pub links: Links,
 }
 
-/// What is stored of the rows of the main table by the key that they look up.
+/// What is stored for the rows of the main table by the key that they look up.
 #[derive(Debug, Drop)]
 pub(crate) enum Links {
     /// Their numbers; none where the view looks up no table.
@@ -82,7 +82,7 @@ fn leaves_none(lookup: Option<Lookup>) -> bool
     }
 }
 
-/// Whether a view shows each row of the main table in the order of the numbers: a plain one that has no order and no
+/// Whether a view shows each row of the main table in the order of row numbers: a plain one that has no order and no
 /// filter, and leaves no row out.
 fn shows_each(view: &View) -> bool
     ensures { result ≡ true → ShowsEach view.now }
@@ -93,7 +93,7 @@ fn shows_each(view: &View) -> bool
         && leaves_none(view.lookup)
 }
 
-/// What is stored of a view without rows.
+/// What is stored for a view without rows.
 fn materialized_of_none(alloc: Global, view: &View) -> Result<Materialized, AllocError>
     ensures kept { IfOk result (λ kept. IsMaterialized view.now kept []) }
     ensures read { IfOk result (λ kept. IfSome (columns_in kept) (KeepRead view.now.outputs)) }
@@ -114,7 +114,7 @@ fn materialized_of_none(alloc: Global, view: &View) -> Result<Materialized, Allo
     }
 }
 
-/// Whether nothing is stored of a view's rows and links: rows are inserted and deleted without it.
+/// Whether nothing is stored for a view's rows and links: rows are inserted and deleted without it.
 pub(crate) fn materializes_nothing(view: &View, state: &ViewState) -> bool
     ensures { result ≡ true → (state.now.kept ≡ materialized_is.Live) × (view.now.lookup ≡ None) }
 {
