@@ -394,7 +394,7 @@ index_revived keys hs es live n k e is read at unused =
     }
 
 -- what the last row counted was counted
--- A row is retracted, and another comes that holds its key.
+-- A row is retracted, and another is added that holds its key.
 
 flagged_long : (b : Bool) (es : List Entry) (n : ℕ) → length (flagged b es n) ≡ length es
 flagged_long b [] n = refl

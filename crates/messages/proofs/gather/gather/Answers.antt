@@ -5,7 +5,6 @@ use Rattle.messages.specs.State.{known_of, whole_seen}
 use Rattle.messages.proofs.GatherLemmas.{next_part, part_found, part_fails, part_gathers, cut_back}
 use Rattle.messages.proofs.gather.gather.Goals as goal
 
--- src/gather.rt:45:17
 pub returns-in-Err-clause-found : goal.returns-in-Err-clause-found
 returns-in-Err-clause-found c =
     let held : List ℕ = c.loop-used.held.items in
@@ -19,7 +18,6 @@ returns-in-Err-clause-found c =
     c.args.held.now.items
     c.args.piece.now end c.in-Err.fault n c.in-Err.ensures.found
 
--- src/gather.rt:45:17
 pub returns-in-Err-clause-unchanged : goal.returns-in-Err-clause-unchanged
 returns-in-Err-clause-unchanged c =
     c.truncate.ensures.items
@@ -27,7 +25,6 @@ returns-in-Err-clause-unchanged c =
     (take c.loop-used.used c.args.piece.now)
     c.len-before.result c.in-Err.ensures.kept c.loop-used.invariant.held c.loop-used.invariant.before
 
--- src/gather.rt:47:43
 pub returns-in-Ok-Whole-clause-found : goal.returns-in-Ok-Whole-clause-found
 returns-in-Ok-Whole-clause-found c =
     let held : List ℕ = c.loop-used.held.items in
@@ -42,7 +39,6 @@ returns-in-Ok-Whole-clause-found c =
     c.args.held.now.items
     c.args.piece.now end (whole_seen c.in-Ok-Whole.found) n f
 
--- src/gather.rt:47:43
 pub returns-in-Ok-Whole-clause-grown : goal.returns-in-Ok-Whole-clause-grown
 returns-in-Ok-Whole-clause-grown c =
     let held : List ℕ = c.loop-used.held.items in
