@@ -11,7 +11,7 @@ abbrev pub layouts_wanted : Columns → Roses Layout
 layouts_wanted (columns.Fields s) = slot_layouts_of s.now.fields.items
 layouts_wanted (columns.Values l) = more (node l none) none
 
--- The fields of a schema obey what reading it checks (`AreFields`).
+-- The fields of a schema meet the conditions that reading checks (`AreFields`).
 abbrev pub AreRead : Columns → Type 0
 AreRead (columns.Fields s) = AreFields s.now.fields.items
 AreRead (columns.Values l) = Unit {0}

@@ -41,7 +41,7 @@ abbrev pub progress_seen : Progress → Option Whole
 progress_seen (progress.Partial n) = None
 progress_seen (progress.Whole f) = Some (whole_seen f)
 
--- The fields of the schema, if one is known, obey what reading it checks (`AreFields`).
+-- The fields of the schema, if one is known, meet the conditions that reading checks (`AreFields`).
 abbrev pub IsRead : Option (List (Rose Entry)) → Type 0
 IsRead None = Unit {0}
 IsRead (Some fields) = AreFields fields
