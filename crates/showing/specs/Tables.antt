@@ -165,13 +165,13 @@ measured_rows = 1024
 abbrev pub IsWider : Rose Entry → CheckedColumn → ℕ → ℕ → ℕ → Type 0
 IsWider f c rows w v = (w ≤ v) × ((v ≡ w) ⊎ ((i : ℕ) × (i < rows) × (v ≡ width_of (cell_text f (cell_in c i)))))
 
--- Column number k is wider, and the others are as they were.
+-- The same of column number k, and the others are as they were.
 pub record IsWiderAt (k : ℕ) (f : Rose Entry) (c : CheckedColumn) (rows : ℕ) (ws vs : List ℕ) : Type 0 where
   pub count : length vs ≡ length ws
   pub here : IsWider f c rows (get_or ws k 0) (get_or vs k 0)
   pub others : (j : ℕ) → j ≢ k → get_or vs j 0 ≡ get_or ws j 0
 
--- Each column with a field is wider, and any other is as it was.
+-- The same of each column with a field, and any other is as it was.
 pub record AreWider (fs : List (Rose Entry)) (cs : List CheckedColumn) (rows : ℕ) (ws vs : List ℕ) : Type 0 where
   pub count : length vs ≡ length ws
   pub shown :
