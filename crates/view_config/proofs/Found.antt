@@ -14,10 +14,11 @@ use Rattle.values.specs.declared.col_type.ColType.TheVariants as col
 use Rattle.view_lang.specs.Config.{SideTable}
 use Rattle.view_lang.specs.Fields.{IsColumn, IsOrdered, no_field}
 use Rattle.view_lang.specs.TableRules.{type_of}
+use Rattle.view_config.specs.Aggregates.{sole_ordered, sole_reference}
 use Rattle.view_config.specs.Columns.{find, has_order, name_of, ordered}
 use Rattle.view_config.specs.Scope.{Column, Scope, behind, fields_of, main_column, ordered_reference, reference, reference_by, reference_in, side_column}
 use Rattle.view_config.specs.Sides.{find_side, side_called}
-use Rattle.view_config.specs.Tree.{pair}
+use Rattle.view_config.specs.Tree.{pair, sole}
 use Rattle.view_config.specs.declared.faults.ConfigFault.TheVariants as fault
 use Rattle.view_config.specs.declared.scope.Rows.{Rows}
 use Rattle.view_config.specs.declared.scope.Rows.TheVariants as rows
@@ -164,3 +165,11 @@ pub reference-ordered :
 unfolding ordered_reference
 reference-ordered s d c e =
     bound (reference s d) ordered c e (λ p a e1. ordered-column (fields_of s) p c (reference-at s d p a) e1)
+
+-- the column of a sole item
+pub sole-at : (s : Scope) (ds : Items) (c : Column) → sole_reference s ds ≡ Ok c → IsAt (fields_of s) c
+sole-at s ds c e = bound (must fault.Shape (sole ds)) (reference s) c e (λ d a e1. reference-at s d c e1)
+
+pub sole-order : (s : Scope) (ds : Items) (c : Column) → sole_ordered s ds ≡ Ok c → IsOrdered (fields_of s) c.0
+sole-order s ds c e =
+    bound (must fault.Shape (sole ds)) (ordered_reference s) c e (λ d a e1. reference-ordered s d c e1)

@@ -11,6 +11,8 @@ pub mod Joined
 pub mod FilterDepths
 pub mod FilterCounts
 pub mod Numbers
+pub mod RenamedFields
+pub mod AggregateCases
 pub mod OutputFields
 pub mod OutputNames
 pub mod Digits

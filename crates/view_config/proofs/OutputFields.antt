@@ -1,30 +1,42 @@
 -- The fields of outputs: their sizes and their types.
-use Rattle.std.proofs.Common.{◌≡◌, ℕ, zero, suc, ◌+◌, ◌<◌, ◌≤◌, List, [], ◌∷◌, length, get_or, drop, map, refl, ap, sym, ◌∙◌, Option, Some, None, true, slice_get}
+use Rattle.std.proofs.Common.{
+  ◌≡◌,
+  ℕ,
+  zero,
+  suc,
+  ◌+◌,
+  ◌<◌,
+  ◌≤◌,
+  List,
+  [],
+  ◌∷◌,
+  length,
+  get_or,
+  drop,
+  map,
+  refl,
+  ap,
+  sym,
+  ◌∙◌,
+  Option,
+  Some,
+  None,
+  slice_get,
+}
 use Rattle.std.proofs.lemmas.List.{drop_all, drop_more}
 use Rattle.std.proofs.lemmas.Option.{get_or_from_slice_get}
-use Rattle.values.specs.Rose.{Rose, node, kids_of, rose_size, roses_size}
+use Rattle.values.specs.Rose.{Rose, kids_of, rose_size, roses_size}
 use Rattle.values.specs.Logical.{NamedType}
-use Rattle.values.specs.declared.col_type.ColType.{ColType}
 use Rattle.values.specs.declared.col_type.ColType.TheVariants as col
 use Rattle.view_lang.specs.Filter.{Filter}
 use Rattle.view_lang.specs.Outputs.{GroupOutput, Output, columns, groups}
 use Rattle.view_lang.specs.TableRules.{type_of}
 use Rattle.view_lang.specs.ViewColumns.{output_field, output_fields}
-use Rattle.view_lang.specs.Aggregates.{aggregate_field, sum_type}
-use Rattle.view_lang.specs.Fields.{field_at, no_field, renamed}
-use Rattle.view_lang.specs.declared.aggregate.Aggregate.{Aggregate}
-use Rattle.view_lang.specs.declared.aggregate.Aggregate.TheVariants as aggregate
-use Rattle.view_config.specs.Columns.{has_order, name_of}
+use Rattle.view_lang.specs.Aggregates.{aggregate_field}
+use Rattle.view_lang.specs.Fields.{field_at, no_field}
 use Rattle.view_config.specs.Outputs.{all_groups}
-
-pub renamed-size : (name : List ℕ) (f : Rose NamedType) → rose_size (renamed name f) ≡ rose_size f
-renamed-size name (node f kids) = refl
-
-pub renamed-type : (name : List ℕ) (f : Rose NamedType) → type_of (renamed name f) ≡ type_of f
-renamed-type name (node f kids) = refl
-
-pub renamed-name : (name : List ℕ) (f : Rose NamedType) → name_of (renamed name f) ≡ name
-renamed-name name (node f kids) = refl
+use Rattle.view_config.proofs.RenamedFields.{renamed-size, renamed-type}
+use Rattle.view_config.proofs.AggregateCases.{aggregate-size, aggregate-type}
 
 -- a column by its number
 pub field-some : (fs : List (Rose NamedType)) (k : ℕ) (f : Rose NamedType) → Some f ≡ slice_get fs k → field_at fs k ≡ f
@@ -36,53 +48,6 @@ field-none (f ∷ fs) zero e = cc
 field-none (f ∷ fs) (suc k) e = field-none fs k e
 
 pub ruleset column_sizes = (field-some, field-none)
-
--- the size and the order of an aggregate's field, whatever its name
-pub aggregate-size :
-    (fields : List (Rose NamedType)) (by name : List ℕ) (a : Aggregate)
-    → rose_size (aggregate_field fields by name a) ≡ rose_size (aggregate_field fields by [] a)
-aggregate-size fields by name (aggregate.Key k) =
-    renamed-size name (field_at fields (get_or by k 0)) ∙ sym (renamed-size [] (field_at fields (get_or by k 0)))
-aggregate-size fields by name aggregate.Count = refl
-aggregate-size fields by name (aggregate.CountOf k) = refl
-aggregate-size fields by name (aggregate.Distinct k) = refl
-aggregate-size fields by name (aggregate.Sum k) = refl
-aggregate-size fields by name (aggregate.Least k) =
-    renamed-size name (field_at fields k) ∙ sym (renamed-size [] (field_at fields k))
-aggregate-size fields by name (aggregate.Greatest k) =
-    renamed-size name (field_at fields k) ∙ sym (renamed-size [] (field_at fields k))
-
-pub aggregate-type :
-    (fields : List (Rose NamedType)) (by name : List ℕ) (a : Aggregate)
-    → type_of (aggregate_field fields by name a) ≡ type_of (aggregate_field fields by [] a)
-aggregate-type fields by name (aggregate.Key k) =
-    renamed-type name (field_at fields (get_or by k 0)) ∙ sym (renamed-type [] (field_at fields (get_or by k 0)))
-aggregate-type fields by name aggregate.Count = refl
-aggregate-type fields by name (aggregate.CountOf k) = refl
-aggregate-type fields by name (aggregate.Distinct k) = refl
-aggregate-type fields by name (aggregate.Sum k) = refl
-aggregate-type fields by name (aggregate.Least k) =
-    renamed-type name (field_at fields k) ∙ sym (renamed-type [] (field_at fields k))
-aggregate-type fields by name (aggregate.Greatest k) =
-    renamed-type name (field_at fields k) ∙ sym (renamed-type [] (field_at fields k))
-
-pub sum-ordered : (t : ColType) → has_order (sum_type t) ≡ true
-sum-ordered col.Bool = refl
-sum-ordered (col.Int w s) = refl
-sum-ordered (col.Decimal p s) = refl
-sum-ordered (col.Date u) = refl
-sum-ordered (col.Time u) = refl
-sum-ordered (col.Timestamp u z) = refl
-sum-ordered (col.Duration u) = refl
-sum-ordered (col.Utf8 o) = refl
-sum-ordered (col.Binary o) = refl
-sum-ordered (col.FixedSizeBinary w) = refl
-sum-ordered (col.List o) = refl
-sum-ordered col.Struct = refl
-
-pub ruleset aggregate_sizes = (renamed-size)
-
-pub ruleset aggregate_types = (renamed-type, sum-ordered)
 
 -- one output after the other
 pub outputs-step :

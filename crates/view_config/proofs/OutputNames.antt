@@ -9,26 +9,13 @@ use Rattle.view_lang.specs.Filter.{Filter}
 use Rattle.view_lang.specs.Outputs.{GroupOutput, Output, Outputs, columns, groups}
 use Rattle.view_lang.specs.TableRules.{type_of}
 use Rattle.view_lang.specs.ViewColumns.{output_fields}
-use Rattle.view_lang.specs.Aggregates.{aggregate_field}
 use Rattle.view_lang.specs.Fields.{field_at, no_field}
-use Rattle.view_lang.specs.declared.aggregate.Aggregate.{Aggregate}
-use Rattle.view_lang.specs.declared.aggregate.Aggregate.TheVariants as aggregate
 use Rattle.view_config.specs.Columns.{find, find_name, has_order, name_of}
 use Rattle.view_config.specs.Outputs.{names_of}
 use Rattle.view_config.specs.Tables.{key_of, ordered_column}
 use Rattle.view_config.specs.declared.faults.ConfigFault.TheVariants as fault
-use Rattle.view_config.proofs.OutputFields.{renamed-name}
-
-aggregate-name :
-    (fields : List (Rose NamedType)) (by name : List ℕ) (a : Aggregate)
-    → name_of (aggregate_field fields by name a) ≡ name
-aggregate-name fields by name (aggregate.Key k) = renamed-name name (field_at fields (get_or by k 0))
-aggregate-name fields by name aggregate.Count = refl
-aggregate-name fields by name (aggregate.CountOf k) = refl
-aggregate-name fields by name (aggregate.Distinct k) = refl
-aggregate-name fields by name (aggregate.Sum k) = refl
-aggregate-name fields by name (aggregate.Least k) = renamed-name name (field_at fields k)
-aggregate-name fields by name (aggregate.Greatest k) = renamed-name name (field_at fields k)
+use Rattle.view_config.proofs.RenamedFields.{renamed-name}
+use Rattle.view_config.proofs.AggregateCases.{aggregate-name}
 
 columns-names : (fields : List (Rose NamedType)) (os : List Output)
     → map name_of (output_fields fields (columns os)) ≡ map (λ o. o.name) os

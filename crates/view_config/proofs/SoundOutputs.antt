@@ -1,41 +1,52 @@
 -- Outputs that were read keep their rules.
-use Rattle.std.proofs.Common.{◌≡◌, ℕ, suc, ◌+◌, ◌<◌, ◌≤◌, List, [], ◌∷◌, length, map, refl, ap, sym, subst, ◌∙◌, arith, Ok, Err, Option, Some, None, Bool, true, false, inl, inr}
-use Rattle.std.specs.Prelude.{All, codes, if◌then◌else◌, ◌==◌}
+use Rattle.std.proofs.Common.{
+  ◌≡◌,
+  ℕ,
+  suc,
+  ◌≤◌,
+  List,
+  [],
+  ◌∷◌,
+  length,
+  map,
+  refl,
+  ap,
+  subst,
+  ◌∙◌,
+  arith,
+  Ok,
+  Option,
+  Some,
+  None,
+  true,
+}
+use Rattle.std.specs.Prelude.{All, codes}
 use Rattle.std.specs.Str.{bytes_eq, is_utf8}
-use Rattle.std.proofs.lemmas.Bool.{leb-true}
 use Rattle.std.proofs.lemmas.List.Elements.{All-nil, All-cons}
-use Rattle.std.proofs.lemmas.Option.{get_or_from_slice_get}
 use Rattle.toml.specs.Data.{Data, Items, no_items, item}
 use Rattle.values.specs.Limits.{max_fields}
-use Rattle.values.specs.Logical.{NamedType}
-use Rattle.values.specs.Reading.{◌>>=◌, cons, mapped, must, one}
-use Rattle.values.specs.Rose.{Rose, kids_of, roses_size}
+use Rattle.values.specs.Reading.{cons, must}
+use Rattle.values.specs.Rose.{kids_of, roses_size}
 use Rattle.values.proofs.Readings.{both_Ok, mapped_Ok, must_Ok}
-use Rattle.values.specs.declared.col_type.ColType.{ColType}
-use Rattle.values.specs.declared.col_type.ColType.TheVariants as col
 use Rattle.view_lang.specs.ConfigRules.{AreOutputs, IsGroupOutput, IsHaving, IsOutput, IsText}
-use Rattle.view_lang.specs.Aggregates.{IsAddable, IsAggregate}
-use Rattle.view_lang.specs.Fields.{IsColumn, IsOrdered, no_field}
-use Rattle.view_lang.specs.Limits.{max_columns, max_sum_precision}
+use Rattle.view_lang.specs.Fields.{IsColumn, IsOrdered}
+use Rattle.view_lang.specs.Limits.{max_columns}
 use Rattle.view_lang.specs.Outputs.{GroupOutput, Output, Outputs, columns}
-use Rattle.view_lang.specs.TableRules.{type_of}
 use Rattle.view_lang.specs.ViewColumns.{output_fields}
-use Rattle.view_lang.specs.declared.aggregate.Aggregate.{Aggregate}
-use Rattle.view_lang.specs.declared.aggregate.Aggregate.TheVariants as aggregate
 use Rattle.view_config.specs.Limits.{column_name, few_fields}
 use Rattle.view_config.specs.Outputs.{all_groups, distinct_numbers, group_of, group_output_named, group_output_of, grouping_column, output_limits, output_named, output_of, outputs_in, outputs_of, shown_by}
-use Rattle.view_config.specs.Aggregates.{aggregate_by, can_be_summed, count_by, key_of_group, sole_ordered, sole_reference, sum_of_column}
-use Rattle.view_config.specs.Numbers.{place_of}
+use Rattle.view_config.specs.Aggregates.{aggregate_by, sole_reference}
 use Rattle.view_config.specs.Reading.{Reading}
-use Rattle.view_config.specs.Scope.{Column, Scope, fields_of, ordered_reference, reference}
+use Rattle.view_config.specs.Scope.{Column, Scope, fields_of, ordered_reference}
 use Rattle.view_config.specs.Tables.{few_columns}
-use Rattle.view_config.specs.Tree.{count_items, each_item, headed, items_in, sole}
+use Rattle.view_config.specs.Tree.{count_items, each_item, headed, items_in}
 use Rattle.view_config.specs.declared.faults.ConfigFault.TheVariants as fault
-use Rattle.view_config.proofs.Found.{IsAt, column-there, reference-at, reference-ordered}
-use Rattle.view_config.proofs.Readings.{bound, items_all, test_Ok, test_Some}
+use Rattle.view_config.proofs.Found.{column-there, reference-ordered, sole-at}
+use Rattle.view_config.proofs.Readings.{bound, items_all, test_Ok}
 use Rattle.view_config.proofs.SoundFields.{headed-textual, name-sound}
 use Rattle.view_config.proofs.SoundTables.{columns-some, few-sound, items-length, items-textual}
 use Rattle.view_config.proofs.Texts.{AreTextual, IsTextual}
+use Rattle.view_config.proofs.AggregateCases.{aggregate-sound}
 
 -- the columns that rows are grouped by
 grouping-sound : (s : Scope) (d : Data) (n : ℕ) → grouping_column s d ≡ Ok n → IsOrdered (fields_of s) n
@@ -53,98 +64,6 @@ group-sound s d by e =
     let same : ns ≡ by = cc in
     subst (λ (ms : List ℕ). All (IsOrdered (fields_of s)) ms) same
     (items_all (IsOrdered (fields_of s)) (grouping_column s) ds ns (grouping-sound s) b))))
-
-sole-at : (s : Scope) (ds : Items) (c : Column) → sole_reference s ds ≡ Ok c → IsAt (fields_of s) c
-sole-at s ds c e = bound (must fault.Shape (sole ds)) (reference s) c e (λ d a e1. reference-at s d c e1)
-
-sole-order : (s : Scope) (ds : Items) (c : Column) → sole_ordered s ds ≡ Ok c → IsOrdered (fields_of s) c.0
-sole-order s ds c e =
-    bound (must fault.Shape (sole ds)) (ordered_reference s) c e (λ d a e1. reference-ordered s d c e1)
-
--- a place that was found is there
-place-found : (i n : ℕ) (ns : List ℕ) (k : ℕ) → place_of i n ns ≡ Some k → k < i + length ns
-place-found i n [] k e = cc
-place-found i n (m ∷ ms) k e =
-    elim (test_Some (n == m) i k (place_of (i + 1) n ms) e)
-    [ inl a ↦ omega (arith, a) | inr b ↦ let r = place-found (i + 1) n ms k b in omega (arith, r) ]
-
-key-group :
-    (fields : List (Rose NamedType)) (by : List ℕ) (n : ℕ) (a : Aggregate) → key_of_group by n ≡ Ok a
-    → IsAggregate fields by a
-key-group fields by n a e =
-    let read = mapped_Ok aggregate.Key (must fault.UnknownName (place_of 0 n by)) a e in
-    let there = place-found 0 n by read.0 (must_Ok fault.UnknownName (place_of 0 n by) read.0 read.1) in
-    subst (IsAggregate fields by) read.2 (omega (arith, there))
-
-count-sound : (s : Scope) (by : List ℕ) (ds : Items) (a : Aggregate) → count_by s ds ≡ Ok a
-    → IsAggregate (fields_of s) by a
-count-sound s by ds a e = either (count_items ds == 0) e
-  where
-    either : (b : Bool)
-        → (if b then Ok aggregate.Count else mapped (λ c. aggregate.CountOf c.0) (sole_reference s ds)) ≡ Ok a
-        → IsAggregate (fields_of s) by a
-    either true e = let same : aggregate.Count ≡ a = cc in subst (IsAggregate (fields_of s) by) same tt
-    either false e =
-        let read = mapped_Ok (λ (c : Column). aggregate.CountOf c.0) (sole_reference s ds) a e in
-        subst (IsAggregate (fields_of s) by) read.2 (column-there (fields_of s) read.0 (sole-at s ds read.0 read.1))
-
-addable : (t : ColType) → can_be_summed t ≡ true → IsAddable t
-addable col.Bool h = cc
-addable (col.Int w s) h = tt
-addable (col.Decimal p s) h = leb-true p max_sum_precision h
-addable (col.Date u) h = cc
-addable (col.Time u) h = cc
-addable (col.Timestamp u z) h = cc
-addable (col.Duration u) h = cc
-addable (col.Utf8 o) h = cc
-addable (col.Binary o) h = cc
-addable (col.FixedSizeBinary w) h = cc
-addable (col.List o) h = cc
-addable col.Struct h = cc
-
-sum-sound : (fields : List (Rose NamedType)) (by : List ℕ) (c : Column) (a : Aggregate) → IsAt fields c
-    → sum_of_column c ≡ Ok a → IsAggregate fields by a
-sum-sound fields by c a at e =
-    let read = test_Ok (can_be_summed (type_of c.1)) (Ok (aggregate.Sum c.0)) _ a e in
-    let same : aggregate.Sum c.0 ≡ a = let q = read.1 in cc in
-    let here = get_or_from_slice_get fields c.0 c.1 no_field at in
-    subst (IsAggregate fields by) same (
-      column-there fields c at,
-      subst (λ (f : Rose NamedType). IsAddable (type_of f)) (sym here) (addable (type_of c.1) read.0),
-    )
-
-aggregate-by-sound :
-    (s : Scope) (by : List ℕ) (ds : Items) (a : Aggregate) (p q w r t u : Bool)
-    → (if p then (sole_reference s ds >>= λ c. key_of_group by c.0)
-    else if q then count_by s ds
-    else if w then mapped (λ c. aggregate.Distinct c.0) (sole_ordered s ds)
-    else if r then sole_reference s ds >>= sum_of_column
-    else if t then mapped (λ c. aggregate.Least c.0) (sole_ordered s ds)
-    else if u then mapped (λ c. aggregate.Greatest c.0) (sole_ordered s ds)
-    else Err (one fault.Shape)) ≡ Ok a
-    → IsAggregate (fields_of s) by a
-aggregate-by-sound s by ds a true q w r t u e =
-    bound (sole_reference s ds) _ a e (λ c b e1. key-group (fields_of s) by c.0 a e1)
-aggregate-by-sound s by ds a false true w r t u e = count-sound s by ds a e
-aggregate-by-sound s by ds a false false true r t u e =
-    let read = mapped_Ok (λ (c : Column). aggregate.Distinct c.0) (sole_ordered s ds) a e in
-    subst (IsAggregate (fields_of s) by) read.2 (sole-order s ds read.0 read.1)
-aggregate-by-sound s by ds a false false false true t u e =
-    bound (sole_reference s ds) sum_of_column a e (λ c b e1. sum-sound (fields_of s) by c a (sole-at s ds c b) e1)
-aggregate-by-sound s by ds a false false false false true u e =
-    let read = mapped_Ok (λ (c : Column). aggregate.Least c.0) (sole_ordered s ds) a e in
-    subst (IsAggregate (fields_of s) by) read.2 (sole-order s ds read.0 read.1)
-aggregate-by-sound s by ds a false false false false false true e =
-    let read = mapped_Ok (λ (c : Column). aggregate.Greatest c.0) (sole_ordered s ds) a e in
-    subst (IsAggregate (fields_of s) by) read.2 (sole-order s ds read.0 read.1)
-aggregate-by-sound s by ds a false false false false false false e = cc
-
-aggregate-sound : (s : Scope) (by w : List ℕ) (ds : Items) (a : Aggregate) → aggregate_by s by w ds ≡ Ok a
-    → IsAggregate (fields_of s) by a
-unfolding aggregate_by
-aggregate-sound s by w ds a e =
-    aggregate-by-sound s by ds a (bytes_eq w (codes "col")) (bytes_eq w (codes "count")) (bytes_eq w (codes "distinct"))
-    (bytes_eq w (codes "sum")) (bytes_eq w (codes "least")) (bytes_eq w (codes "greatest")) e
 
 shown-sound : (s : Scope) (w : List ℕ) (ds : Items) (n : ℕ) → shown_by s w ds ≡ Ok n → IsColumn (fields_of s) n
 shown-sound s w ds n e =

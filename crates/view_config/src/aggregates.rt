@@ -153,7 +153,7 @@ fn grouped_at(by: &[usize], place: usize) -> usize
 }
 
 /// `room` less the number of fields of an output of groups by these columns, at all levels; `None` where they are more.
-#[tactic(auto, using(crate::proofs::OutputFields::aggregate_sizes))]
+#[tactic(auto, using(crate::proofs::AggregateCases::aggregate_sizes))]
 pub(crate) fn room_after_aggregate(
     scope: &Scope,
     by: &[usize],
@@ -173,7 +173,7 @@ pub(crate) fn room_after_aggregate(
 }
 
 /// Whether the values of an output of groups by these columns have an order.
-#[tactic(auto, using(crate::proofs::OutputFields::aggregate_types))]
+#[tactic(auto, using(crate::proofs::AggregateCases::aggregate_types))]
 pub(crate) fn is_aggregate_ordered(scope: &Scope, by: &[usize], aggregate: Aggregate) -> bool
     ensures { result ≡ has_order (type_of (aggregate_field (fields_of scope.now) by.now [] aggregate)) }
 {

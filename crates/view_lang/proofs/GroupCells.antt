@@ -1,4 +1,4 @@
--- What is shown of a group is held by its column.
+-- Counts, sums and the first of the cells of a group are held by their columns.
 use Rattle.std.proofs.Common.{
   ℕ,
   Bool,
@@ -41,17 +41,14 @@ use Rattle.values.specs.Limits.{max_main_rows}
 use Rattle.values.specs.Logical.{NamedType, tree_of, trees_of}
 use Rattle.values.specs.Rose.{Rose, node}
 use Rattle.view_lang.specs.Cells.{cell_at}
-use Rattle.view_lang.specs.Aggregates.{IsAddable, IsAggregate, aggregate_of, IsSmall, aggregate_field, count_type, sum_type}
-use Rattle.view_lang.specs.Folds.{distinct, first_in, number_in, sum_of, total, values_at}
+use Rattle.view_lang.specs.Aggregates.{IsAddable, IsSmall, count_type, sum_type}
+use Rattle.view_lang.specs.Folds.{first_in, number_in, sum_of, total, values_at}
 use Rattle.view_lang.specs.RowOrder.{cell_cmp}
 use Rattle.view_lang.specs.TableRules.{type_of}
 use Rattle.view_lang.specs.Fields.{field_at, renamed, simple_field}
-use Rattle.view_lang.specs.declared.aggregate.Aggregate.{Aggregate}
-use Rattle.view_lang.specs.declared.aggregate.Aggregate.TheVariants as aggregate
 use Rattle.view_lang.specs.declared.view.Direction.{Direction}
 use Rattle.view_lang.proofs.CellFits.{AreFit, Fits, cell_fits, null_fits, renamed_fits}
-use Rattle.view_lang.proofs.Columns.{AreSuch, column_at}
-use Rattle.view_lang.proofs.Distinct.{few_distinct}
+use Rattle.view_lang.proofs.OwnColumns.{AreSuch, column_at}
 use Rattle.view_lang.proofs.InputRows.{few_filtered}
 
 -- Numbers that are added are small.
@@ -153,7 +150,7 @@ decimal_sum s name (d ∷ ds) few all =
     let bounds = total_small (d ∷ ds) all in
     record { held = few_digits (total (d ∷ ds)) (length (d ∷ ds)) few bounds.0 bounds.1; light = omega arith }
 
-sum_fits :
+pub sum_fits :
     (t : ColType) (name : List ℕ) (ds : List Datum) → IsAddable t → length ds ≤ 2 ^ 24
     → All (λ d. IsSmall (number_in d)) ds
     → Fits (tree_of (simple_field name (sum_type t))) (sum_of ds)
@@ -170,7 +167,7 @@ sum_fits (col.FixedSizeBinary w) name ds can few all = absurd can
 sum_fits (col.List o) name ds can few all = absurd can
 sum_fits col.Struct name ds can few all = absurd can
 
-count_fits : (name : List ℕ) (n : ℕ) → n ≤ 2 ^ 24 → Fits (tree_of (simple_field name count_type)) (whole (pos n))
+pub count_fits : (name : List ℕ) (n : ℕ) → n ≤ 2 ^ 24 → Fits (tree_of (simple_field name count_type)) (whole (pos n))
 count_fits name n few = record { held = (omega (arith, ints, few), omega (arith, ints, few)); light = omega arith }
 
 -- The first of some cells is one of them, or null.
@@ -199,7 +196,7 @@ module _ (fs : List (Rose NamedType)) (such : AreSuch fs) (rows : List (List Dat
       (All-map P (λ row. cell_at row k) rows
       (All-weaker (AreFit fs) (λ row. P (cell_at row k)) (λ row fit. cell_fits fs row k fit below) rows all))
 
-  few_values : (k : ℕ) → length (values_at k rows) ≤ 2 ^ 24
+  pub few_values : (k : ℕ) → length (values_at k rows) ≤ 2 ^ 24
   few_values k = omega (
     arith,
     few_filtered (λ d. not (is_null d)) (map (λ row. cell_at row k) rows),
@@ -207,34 +204,15 @@ module _ (fs : List (Rose NamedType)) (such : AreSuch fs) (rows : List (List Dat
     few,
   )
 
-  added_fits : (k : ℕ) → k < length fs → IsAddable (type_of (field_at fs k))
+  pub added_fits : (k : ℕ) → k < length fs → IsAddable (type_of (field_at fs k))
       → All (λ d. IsSmall (number_in d)) (values_at k rows)
   added_fits k below can =
       All-weaker (Fits (tree_of (field_at fs k))) (λ d. IsSmall (number_in d))
       (λ d fits. added_small (field_at fs k) d can fits) (values_at k rows) (column_fits k below)
 
-  first_of_column : (o : Direction) (name : List ℕ) (k : ℕ) → k < length fs
+  pub first_of_column : (o : Direction) (name : List ℕ) (k : ℕ) → k < length fs
       → Fits (tree_of (renamed name (field_at fs k))) (first_in o (values_at k rows))
   first_of_column o name k below =
       renamed_fits name (field_at fs k) (first_in o (values_at k rows))
       (first_fits (Fits (tree_of (field_at fs k))) o (values_at k rows)
       (null_fits (tree_of (field_at fs k)) (column_at fs k such below).slim) (column_fits k below))
-
-  pub aggregate_fits :
-      (by : List ℕ) (name : List ℕ) (x : Aggregate) (tuple : List Datum) → IsAggregate fs by x → IsTuple fs by tuple
-      → Fits (tree_of (aggregate_field fs by name x)) (aggregate_of x tuple rows)
-  aggregate_fits by name (aggregate.Key k) tuple is held =
-      renamed_fits name (field_at fs (get_or by k 0)) (cell_at tuple k) (held k is)
-  aggregate_fits by name aggregate.Count tuple is held = count_fits name (length rows) few
-  aggregate_fits by name (aggregate.CountOf k) tuple is held = count_fits name (length (values_at k rows)) (few_values
-      k)
-  aggregate_fits by name (aggregate.Distinct k) tuple is held =
-      count_fits name (length (distinct (values_at k rows))) (omega (
-        arith,
-        few_distinct (values_at k rows),
-        few_values k,
-      ))
-  aggregate_fits by name (aggregate.Sum k) tuple is held =
-      sum_fits (type_of (field_at fs k)) name (values_at k rows) is.1 (few_values k) (added_fits k is.0 is.1)
-  aggregate_fits by name (aggregate.Least k) tuple is held = first_of_column _ name k is.0
-  aggregate_fits by name (aggregate.Greatest k) tuple is held = first_of_column _ name k is.0

@@ -1,61 +1,37 @@
 -- The cells that a view compares have keys.
-use Rattle.std.proofs.Common.{ℕ, All, List, refl, subst}
+use Rattle.std.proofs.Common.{ℕ, All, List, subst}
 use Rattle.std.specs.List.{AllByRecursion}
 use Rattle.std.proofs.lemmas.List.Elements.{All-weaker, recursion_from_All}
-use Rattle.values.specs.ColTypes.{IsSingle, layout_of}
-use Rattle.values.specs.Datum.{Datum, list, structure}
-use Rattle.values.specs.Layouts.{Holds}
-use Rattle.values.specs.Logical.{NamedType, tree_of}
-use Rattle.values.specs.Rose.{Rose, Roses, node}
-use Rattle.values.specs.declared.col_type.ColType.{ColType}
-use Rattle.values.specs.declared.layout.Layout.{Layout}
-use Rattle.values.proofs.SingleCells.{no_list, no_structure}
+use Rattle.values.specs.Datum.{Datum}
+use Rattle.values.specs.Logical.{NamedType}
+use Rattle.values.specs.Rose.{Rose}
 use Rattle.view_lang.specs.Cells.{cell_at}
 use Rattle.view_lang.specs.ConfigRules.{AreOutputs, IsGroupOutput}
-use Rattle.view_lang.specs.Aggregates.{IsAggregate, ComparesKeys, IsKeyCell}
-use Rattle.view_lang.specs.Fields.{IsOrdered, field_at}
+use Rattle.view_lang.specs.Aggregates.{ComparesKeys, IsKeyCell}
+use Rattle.view_lang.specs.Fields.{IsOrdered}
 use Rattle.view_lang.specs.Laws.{ViewsOrderKeys, ViewsUseKeys}
 use Rattle.view_lang.specs.Outputs.{GroupOutput, groups}
-use Rattle.view_lang.specs.TableRules.{type_of}
 use Rattle.view_lang.specs.ViewColumns.{joined_columns, view_columns}
 use Rattle.view_lang.specs.ViewLaws.{UsesKeys}
 use Rattle.view_lang.specs.Views.{output_rows, view_input}
-use Rattle.view_lang.specs.declared.aggregate.Aggregate.{Aggregate}
-use Rattle.view_lang.specs.declared.aggregate.Aggregate.TheVariants as aggregate
 use Rattle.view_lang.specs.declared.view.OrderBy.{OrderBy}
-use Rattle.view_lang.proofs.CellFits.{AreFit, cell_fits}
+use Rattle.view_lang.proofs.CellFits.{AreFit}
 use Rattle.view_lang.proofs.Columns.{joined_such}
 use Rattle.view_lang.proofs.InputRows.{input_few, input_fits}
 use Rattle.view_lang.proofs.ViewRows.{outputs_fit}
-
-single_key :
-    (t : ColType) (kids : Roses Layout) (d : Datum) → IsSingle t → Holds (node (layout_of t) kids) d → IsKeyCell d
-single_key t kids (list es) single held = absurd (no_list t kids es single held)
-single_key t kids (structure es) single held = absurd (no_structure t kids es single held)
-single_key t kids d single held = refl
-
-held_key : (f : Rose NamedType) (d : Datum) → IsSingle (type_of f) → Holds (tree_of f) d → IsKeyCell d
-held_key (node f kids) d single held = single_key f.col_type _ d single held
+use Rattle.view_lang.proofs.OrderedCells.{ordered_key}
+use Rattle.view_lang.proofs.AggregateCases.{compared_keys}
 
 module _ (fs : List (Rose NamedType)) (row : List Datum) (fit : AreFit fs row) where
-  ordered_key : (k : ℕ) → IsOrdered fs k → IsKeyCell (cell_at row k)
-  ordered_key k is = held_key (field_at fs k) (cell_at row k) is.1 (cell_fits fs row k fit is.0).held
-
-  compared_keys : (by : List ℕ) (x : Aggregate) → IsAggregate fs by x → ComparesKeys x row
-  compared_keys by (aggregate.Distinct k) is = ordered_key k is
-  compared_keys by (aggregate.Least k) is = ordered_key k is
-  compared_keys by (aggregate.Greatest k) is = ordered_key k is
-  compared_keys by x is = tt
-
   row_uses :
       (by : List ℕ) (outs : List GroupOutput) → All (IsOrdered fs) by → All (IsGroupOutput fs by) outs
       → UsesKeys by outs row
   row_uses by outs ordered all = (
     recursion_from_All (λ k. IsKeyCell (cell_at row k)) by
-        (All-weaker (IsOrdered fs) (λ k. IsKeyCell (cell_at row k)) ordered_key by ordered),
+        (All-weaker (IsOrdered fs) (λ k. IsKeyCell (cell_at row k)) (ordered_key fs row fit) by ordered),
     recursion_from_All (λ o. ComparesKeys o.aggregate row) outs
         (All-weaker (IsGroupOutput fs by) (λ o. ComparesKeys o.aggregate row)
-        (λ o is. compared_keys by o.aggregate is.1) outs all),
+        (λ o is. compared_keys fs row fit by o.aggregate is.1) outs all),
   )
 
   row_orders :
@@ -63,8 +39,8 @@ module _ (fs : List (Rose NamedType)) (row : List Datum) (fit : AreFit fs row) w
       → AllByRecursion (λ o. IsKeyCell (cell_at row o.column)) order
   row_orders order all =
       recursion_from_All (λ o. IsKeyCell (cell_at row o.column)) order
-      (All-weaker (λ o. IsOrdered fs o.column) (λ o. IsKeyCell (cell_at row o.column)) (λ o is. ordered_key o.column is)
-      order all)
+      (All-weaker (λ o. IsOrdered fs o.column) (λ o. IsKeyCell (cell_at row o.column))
+      (λ o is. ordered_key fs row fit o.column is) order all)
 
 pub views_use_keys : ViewsUseKeys
 views_use_keys tables v by outs having side rows is same =

@@ -1,9 +1,13 @@
 pub mod Truths
 mod Fields
+mod OwnColumns
 mod Columns
 mod CellFits
 mod InputRows
 mod GroupCells
+mod OrderedCells
+mod PermutedCells
+mod AggregateCases
 mod ViewRows
 mod KeyCells
 mod Sample

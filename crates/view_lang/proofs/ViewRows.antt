@@ -49,7 +49,7 @@ use Rattle.values.specs.Logical.{NamedType, tree_of}
 use Rattle.values.specs.Rose.{Rose}
 use Rattle.view_lang.specs.Cells.{cell_at, cells_at}
 use Rattle.view_lang.specs.ConfigRules.{AreOutputs, IsGroupOutput, IsOutput}
-use Rattle.view_lang.specs.Aggregates.{IsAggregate, IsSummable, aggregate_field}
+use Rattle.view_lang.specs.Aggregates.{IsSummable, aggregate_field}
 use Rattle.view_lang.specs.Fields.{IsOrdered, field_at}
 use Rattle.view_lang.specs.Groups.{group_row, group_rows, rows_with, same_tuple, tuples_of}
 use Rattle.view_lang.specs.Laws.{ViewsCanSum, ViewsHaveFewRows, ViewsHaveRows}
@@ -61,12 +61,12 @@ use Rattle.view_lang.specs.Sums.{CanSum}
 use Rattle.view_lang.specs.Truth.{passes}
 use Rattle.view_lang.specs.ViewColumns.{joined_columns, output_field, output_fields, view_columns}
 use Rattle.view_lang.specs.Views.{first_of, output_rows, shown_row, shown_rows, view_input, view_rows}
-use Rattle.view_lang.specs.declared.aggregate.Aggregate.{Aggregate}
-use Rattle.view_lang.specs.declared.aggregate.Aggregate.TheVariants as aggregate
 use Rattle.view_lang.proofs.CellFits.{AreFit, Fits, cell_fits, fit_row, renamed_fits}
-use Rattle.view_lang.proofs.Columns.{AreSuch, joined_such}
-use Rattle.view_lang.proofs.GroupCells.{IsTuple, added_small, aggregate_fits}
+use Rattle.view_lang.proofs.Columns.{joined_such}
+use Rattle.view_lang.proofs.GroupCells.{IsTuple}
 use Rattle.view_lang.proofs.InputRows.{few_filtered, input_few, input_fits}
+use Rattle.view_lang.proofs.OwnColumns.{AreSuch}
+use Rattle.view_lang.proofs.AggregateCases.{aggregate_fits, summable}
 
 -- Sorting and cutting
 
@@ -206,18 +206,6 @@ group_fits fs by (o ∷ os) tuple rows such all held fit few =
     )
 
 -- Sums of rows
-
-summable :
-    (fs : List (Rose NamedType)) (by : List ℕ) (x : Aggregate) (row : List Datum) → IsAggregate fs by x → AreFit fs row
-    → IsSummable x row
-summable fs by (aggregate.Key k) row is fit = tt
-summable fs by aggregate.Count row is fit = tt
-summable fs by (aggregate.CountOf k) row is fit = tt
-summable fs by (aggregate.Distinct k) row is fit = tt
-summable fs by (aggregate.Sum k) row is fit =
-    added_small (field_at fs k) (cell_at row k) is.1 (cell_fits fs row k fit is.0)
-summable fs by (aggregate.Least k) row is fit = tt
-summable fs by (aggregate.Greatest k) row is fit = tt
 
 row_summable :
     (fs : List (Rose NamedType)) (by : List ℕ) (os : List GroupOutput) (row : List Datum)
