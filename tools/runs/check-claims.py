@@ -10,7 +10,6 @@ import struct
 import subprocess
 import sys
 import tempfile
-import time
 
 sys.dont_write_bytecode = True
 sys.path.insert(1, f"{sys.path[0]}/../models")
@@ -184,19 +183,25 @@ def claims():
     yield from dictionary_claims()
 
 
+def processor_time():
+    """What the programs that ended have taken."""
+    used = resource.getrusage(resource.RUSAGE_CHILDREN)
+    return used.ru_utime + used.ru_stime
+
+
 def limited(words, seconds, megabytes, folder=None):
-    """The last line that a program prints within its time and memory, with what it took."""
+    """The last line that a program prints within its time and memory, with the processor time that it took."""
 
     def limit():
         resource.setrlimit(resource.RLIMIT_AS, (megabytes * MEGABYTE,) * 2)
 
-    began = time.monotonic()
+    began = processor_time()
     try:
         ran = subprocess.run(words, cwd=folder, stdout=subprocess.PIPE, text=True, preexec_fn=limit, timeout=seconds)
         said = (ran.stdout.splitlines() or [f"status {ran.returncode}"])[-1]
     except subprocess.TimeoutExpired:
         said = f"took more than {seconds} s"
-    return said, time.monotonic() - began
+    return said, processor_time() - began
 
 
 def is_viewed(lv, folder, name, parts, config):
@@ -207,8 +212,8 @@ def is_viewed(lv, folder, name, parts, config):
     for path, text in (("config", config), ("script", "".join(["feed rows in\n", *(f"write {it} out\n" for it in views)]))):
         with open(f"{folder}/{path}", "w", encoding="utf-8") as file:
             file.write(text)
-    said, seconds = limited([lv, "run", f"{folder}/config", f"{folder}/script"], 10, 64, folder)
-    is_well = said.startswith(f"{len(views) + 1}: wrote ")
+    said, seconds = limited([lv, "run", f"{folder}/config", f"{folder}/script"], 10, 60, folder)
+    is_well = said.startswith(f"{len(views) + 1}: wrote ") and seconds <= 1
     if not is_well or "-v" in sys.argv:
         print(f"claims: {name}, {len(views)} views: {'' if is_well else 'FAILED: '}{said} in {seconds:.2f} s")
     return is_well
