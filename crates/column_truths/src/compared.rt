@@ -10,7 +10,7 @@ use std::alloc::AllocError;
 use values::{Kind, Value, cmp_values};
 use view_lang::Comparison;
 
-pub(crate) fn is_null(value: &Value) -> bool
+fn is_null(value: &Value) -> bool
     ensures { result ≡ is_null_by value.now }
 {
     match &value.kind {

@@ -8,7 +8,7 @@ ghost use Rattle.column_truths.specs.RowTruths.{AreWithin, IsWithin, truths_in, 
 use crate::by_cell::compare_cells;
 use crate::by_code::compare_codes;
 use crate::by_lanes::compare_numbers;
-use crate::compared::{compared, is_null, push_truth};
+use crate::compared::{compared, push_truth};
 use arrays::Column;
 use bitmaps::{Bitmap, Truths};
 use std::alloc::{AllocError, Global};
@@ -73,15 +73,14 @@ fn compare_columns(
     Ok(truths)
 }
 
-/// Whether each cell is null.
+/// Whether each cell is null. No cell is copied.
 fn nulls(alloc: Global, column: &Column) -> Result<Truths, AllocError>
     ensures { IfOk result (λ ts. ts ≡ nulls_in column.now.cells) }
 {
     let mut known = Bitmap::with_capacity(alloc, column.len())?;
     let mut unknown = Bitmap::with_capacity(alloc, column.len())?;
     for i in 0..column.len() {
-        let cell = column.cell(alloc, i)?;
-        push_truth(&mut known, &mut unknown, Some(is_null(&cell)))?;
+        push_truth(&mut known, &mut unknown, Some(column.is_null(i)))?;
     }
     let truths = Truths::new(alloc, &known.bits(), unknown)?;
     Ok(truths)

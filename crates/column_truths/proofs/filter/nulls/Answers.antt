@@ -1,5 +1,4 @@
-use Rattle.std.proofs.Common.{◌∙◌, ap, arith, get_or, length, sym}
-use Rattle.std.proofs.lemmas.Option.{get_or_from_slice_get}
+use Rattle.std.proofs.Common.{◌∙◌, ap, arith, get_or, length}
 use Rattle.values.specs.Datum.{null, is_null}
 use Rattle.std.specs.Prelude.{Some}
 use Rattle.column_truths.specs.Compared.{nulls_in}
@@ -23,12 +22,8 @@ push_truth-requires-clause-unknown c =
 
 pub loop-i-preserved : goal.loop-i-preserved
 loop-i-preserved c =
-    let cells = c.args.column.now.cells in
-    let cell = c.in_ok-cell.cell in
-    let here = get_or_from_slice_get cells c.loop-i.i cell null c.in_ok-cell.ensures.value in
     gathered_step _ c.loop-i.known c.loop-i.unknown c.push_truth.new.known c.push_truth.new.unknown c.loop-i.i
-    (Some c.is_null.result) c.loop-i.invariant
-    (ap (λ b. Some b) c.is_null.ensures ∙ ap (λ d. Some (is_null d)) (sym here))
+    (Some c.is_null.result) c.loop-i.invariant (ap (λ b. Some b) c.is_null.ensures)
     c.in_ok-push_truth.ensures.known c.in_ok-push_truth.ensures.unknown
 
 pub returns : goal.returns
