@@ -213,7 +213,7 @@ def is_viewed(lv, folder, name, parts, config):
         with open(f"{folder}/{path}", "w", encoding="utf-8") as file:
             file.write(text)
     said, seconds = limited([lv, "run", f"{folder}/config", f"{folder}/script"], 10, 60, folder)
-    is_well = said.startswith(f"{len(views) + 1}: wrote ") and seconds <= 1
+    is_well = said.startswith(f"{len(views) + 1}: wrote ") and seconds <= 5
     if not is_well or "-v" in sys.argv:
         print(f"claims: {name}, {len(views)} views: {'' if is_well else 'FAILED: '}{said} in {seconds:.2f} s")
     return is_well
