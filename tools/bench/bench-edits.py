@@ -15,6 +15,7 @@ import tempfile
 sys.dont_write_bytecode = True
 sys.path.insert(1, f"{sys.path[0]}/../models")
 from limits import UNDOS
+from sessions import MAIN
 from streams import END_MARK, batch, field, schema
 
 LV = "crates/lv/out/lv"
@@ -23,13 +24,7 @@ TURNS = 3
 # How often rows are appended one by one and then retracted, by feeds of their own.
 ROUNDS = 4
 # The main table and its feeds.
-TABLE = """
-[main]
-key = "i"
-columns = [["i", "int64"], ["n", "utf8"], ["a", "int64"], ["z", "int64"]]
-[feed.rows]
-role = "append"
-""" + "".join(f'[feed.more{it}]\nrole = "append"\n[feed.gone{it}]\nrole = "retract"\n' for it in range(ROUNDS))
+TABLE = MAIN + "".join(f'[feed.more{it}]\nrole = "append"\n[feed.gone{it}]\nrole = "retract"\n' for it in range(ROUNDS))
 VIEWS = {
     "all": """
 [view.all]
