@@ -11,19 +11,23 @@ use std::marker::Model;
 use top_rows::SortKeyList;
 
 /// The entry of a group row in an order: its sort keys, one for each of the order's columns, and its group's tuple, by
-/// which ties are broken. Contracts see the pair of both.
+/// which ties are broken. Contracts see the pair of both. Most entries are told apart by the rank of their sort keys.
 #[derive(Debug, Drop)]
 pub(crate) struct GroupEntry {
+    rank: u64,
     sort_keys: SortKeyList,
     tuple: Tuple,
 }
 
 impl Model for GroupEntry {
     ghost use Rattle.group_order.specs.GroupEntries as seen;
+    ghost use Rattle.top_rows.specs.Ranks.{IsRank};
 
     ghost Value = { seen.GroupEntry };
 
     ghost view = { λ p. (p.sort_keys, p.tuple) };
+
+    ghost invariant = { λ p. IsRank p.sort_keys p.rank };
 }
 
 impl PartialEq for GroupEntry {
@@ -74,9 +78,13 @@ impl Ord for GroupEntry {
     ghost matches_eq = { λ x y. refl };
 
     fn cmp(&self, other: &GroupEntry) -> Ordering {
-        self.sort_keys
-            .cmp(&other.sort_keys)
-            .then(self.tuple.cmp(&other.tuple))
+        match self.rank.cmp(&other.rank) {
+            Ordering::Equal => self
+                .sort_keys
+                .cmp(&other.sort_keys)
+                .then(self.tuple.cmp(&other.tuple)),
+            unlike => unlike,
+        }
     }
 }
 
@@ -85,7 +93,11 @@ impl GroupEntry {
     pub(crate) fn new(sort_keys: SortKeyList, tuple: Tuple) -> GroupEntry
         ensures { result ≡ (sort_keys, tuple) }
     {
-        GroupEntry { sort_keys, tuple }
+        GroupEntry {
+            rank: sort_keys.rank(),
+            sort_keys,
+            tuple,
+        }
     }
 
     pub(crate) fn from_parts(alloc: Global, parts: GroupEntryParts) -> GroupEntry
@@ -93,14 +105,17 @@ impl GroupEntry {
     {
         let GroupEntryParts { sort_keys, tuple } = parts;
         let sort_keys = SortKeyList::from_list(alloc, sort_keys);
-        let tuple = Tuple::of_keys(tuple);
-        GroupEntry { sort_keys, tuple }
+        GroupEntry::new(sort_keys, Tuple::of_keys(tuple))
     }
 
     pub(crate) fn into_parts(self, alloc: Global) -> Result<GroupEntryParts, AllocError>
         ensures { IfOk result (λ parts. entry_with parts ≡ self) }
     {
-        let GroupEntry { sort_keys, tuple } = self;
+        let GroupEntry {
+            sort_keys,
+            tuple,
+            ..
+        } = self;
         let sort_keys = sort_keys.into_list()?;
         let tuple = tuple.into_keys(alloc)?;
         Ok(GroupEntryParts { sort_keys, tuple })

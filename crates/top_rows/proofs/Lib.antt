@@ -2,6 +2,7 @@ pub mod InsertedKeys
 pub mod Appended
 pub mod SortKeys
 pub mod InlineKeys
+pub mod RankLemmas
 pub mod Ties
 pub mod OneRow
 pub mod SortedOrderEntries

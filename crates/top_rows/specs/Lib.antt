@@ -1,5 +1,6 @@
 pub mod OrderedEntries
 pub mod SortKeys
+pub mod Ranks
 pub mod InlineKeys
 pub mod EntryOrder
 pub mod Ties

@@ -12,19 +12,23 @@ use std::marker::Model;
 use view_lang::{OrderBy, RowView};
 
 /// The entry of a row in an order: its sort keys, one for each of the order's columns, and its number, by which ties
-/// are broken. Contracts see the pair of both.
+/// are broken. Contracts see the pair of both. Most entries are told apart by the rank of their sort keys.
 #[derive(Debug, Drop)]
 pub(crate) struct OrderEntry {
-    sort_keys: SortKeyList,
+    rank: u64,
     number: usize,
+    sort_keys: SortKeyList,
 }
 
 impl Model for OrderEntry {
     ghost use Rattle.top_rows.specs.EntryOrder.{RowEntry};
+    ghost use Rattle.top_rows.specs.Ranks.{IsRank};
 
     ghost Value = { RowEntry };
 
     ghost view = { λ p. (p.sort_keys, p.number) };
+
+    ghost invariant = { λ p. IsRank p.sort_keys p.rank };
 }
 
 impl PartialEq for OrderEntry {
@@ -75,13 +79,27 @@ impl Ord for OrderEntry {
     ghost matches_eq = { λ x y. refl };
 
     fn cmp(&self, other: &OrderEntry) -> Ordering {
-        self.sort_keys
-            .cmp(&other.sort_keys)
-            .then(self.number.cmp(&other.number))
+        match self.rank.cmp(&other.rank) {
+            Ordering::Equal => self
+                .sort_keys
+                .cmp(&other.sort_keys)
+                .then(self.number.cmp(&other.number)),
+            unlike => unlike,
+        }
     }
 }
 
 impl OrderEntry {
+    fn new(sort_keys: SortKeyList, number: usize) -> OrderEntry
+        ensures { result ≡ (sort_keys, number) }
+    {
+        OrderEntry {
+            rank: sort_keys.rank(),
+            number,
+            sort_keys,
+        }
+    }
+
     /// The entry of a row.
     pub(crate) fn of<R: RowView>(
         alloc: Global,
@@ -91,22 +109,24 @@ impl OrderEntry {
     ) -> Result<OrderEntry, AllocError>
         ensures { IfOk result (λ entry. entry ≡ place_of order.now number (R.cells row.now)) }
     {
-        let sort_keys = SortKeyList::of(alloc, order, row)?;
-        Ok(OrderEntry { sort_keys, number })
+        Ok(OrderEntry::new(SortKeyList::of(alloc, order, row)?, number))
     }
 
     pub(crate) fn from_parts(alloc: Global, parts: OrderEntryParts) -> OrderEntry
         ensures { result ≡ entry_with parts }
     {
         let OrderEntryParts { sort_keys, number } = parts;
-        let sort_keys = SortKeyList::from_list(alloc, sort_keys);
-        OrderEntry { sort_keys, number }
+        OrderEntry::new(SortKeyList::from_list(alloc, sort_keys), number)
     }
 
     pub(crate) fn into_parts(self) -> Result<OrderEntryParts, AllocError>
         ensures { IfOk result (λ parts. entry_with parts ≡ self) }
     {
-        let OrderEntry { sort_keys, number } = self;
+        let OrderEntry {
+            sort_keys,
+            number,
+            ..
+        } = self;
         let sort_keys = sort_keys.into_list()?;
         Ok(OrderEntryParts { sort_keys, number })
     }

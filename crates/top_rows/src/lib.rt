@@ -10,6 +10,7 @@ mod inline_kind;
 mod laws;
 mod ordered;
 mod parts;
+mod ranks;
 mod sort_key;
 mod sort_key_list;
 #[cfg(test)]

@@ -2,10 +2,12 @@
 
 ghost use Rattle.std.specs.Prelude.{◌≡◌, [], ◌∷◌, IfOk, List, MatchOption};
 ghost use Rattle.top_rows.specs.InlineKeys.{IsListed, cmp_in, inline_cmp, listed};
+ghost use Rattle.top_rows.specs.Ranks.{IsRank};
 ghost use Rattle.top_rows.specs.SortKeys.{sort_keys_of};
 ghost use Rattle.top_rows.specs.declared.sort_key.SortKey.{SortKey as SortKeys};
 
 use crate::inline_kind::InlineKind;
+use crate::ranks::{KEY_RANKS, key_rank};
 use crate::sort_key::SortKey;
 use std::alloc::{AllocError, Global};
 use std::cmp::{Ordering, Reverse};
@@ -156,6 +158,18 @@ impl SortKeyList {
             keys.insert(0, first)?;
         }
         Ok(keys)
+    }
+
+    /// Their rank: lists of different ranks are ordered by these.
+    pub fn rank(&self) -> u64
+        ensures { IsRank self.now result }
+    {
+        match self.first_kind {
+            InlineKind::NoKey => 0,
+            InlineKind::Ascending => key_rank(&self.first),
+            InlineKind::Descending => 2 * KEY_RANKS - 1 - key_rank(&self.first),
+            InlineKind::Missing => 2 * KEY_RANKS,
+        }
     }
 
     fn empty(alloc: Global) -> SortKeyList

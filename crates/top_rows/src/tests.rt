@@ -1,4 +1,4 @@
-//! An order of a few rows, with a tie and a null.
+//! An order of a few rows, with ties, a null, and keys that have one rank.
 
 use crate::Ordered;
 use std::alloc::{AllocError, Global};
@@ -99,5 +99,48 @@ fn follows_an_order_of_two_columns(rt: HostRuntime) -> Result<(), Fail> {
     assert_eq!(rt; made.first(rt.alloc(), 3)?.as_slice(), [2, 3, 1].as_slice());
     made.go(2, &high.as_slice())?;
     assert_eq!(rt; made.first(rt.alloc(), 3)?.as_slice(), [3, 1].as_slice());
+    Ok(())
+}
+
+/// Texts and numbers in ascending order, and null. Some of them have the rank of their neighbour.
+fn ascending_kinds(alloc: Global) -> Result<Vec<Kind>, AllocError> {
+    let mut kinds = Vec::new(alloc);
+    for number in [i128::MIN, -(1 << 60), -1, 0, 1 << 60, i128::MAX] {
+        kinds.push(Kind::Int(number))?;
+    }
+    for text in ["", "row", "row 0000", "row 00001", "row 00002", "row 0001"] {
+        kinds.push(Kind::Utf8(String::from_str(alloc, text)?))?;
+    }
+    kinds.push(Kind::Null)?;
+    Ok(kinds)
+}
+
+#[test]
+fn orders_keys_of_one_rank(rt: HostRuntime) -> Result<(), Fail> {
+    let rising = OrderBy {
+        column: 0,
+        direction: Direction::Ascending,
+    };
+    let falling = OrderBy {
+        column: 0,
+        direction: Direction::Descending,
+    };
+    let mut up = Ordered::new(rt.alloc(), &[rising])?;
+    let mut down = Ordered::new(rt.alloc(), &[falling])?;
+    let mut number = 0;
+    for kind in ascending_kinds(rt.alloc())? {
+        let row = row(rt.alloc(), kind)?;
+        up.insert(number * 5 % 13, &row.as_slice())?;
+        down.insert(number * 5 % 13, &row.as_slice())?;
+        number += 1;
+    }
+    assert_eq!(rt;
+        up.first(rt.alloc(), 13)?.as_slice(),
+        [0, 5, 10, 2, 7, 12, 4, 9, 1, 6, 11, 3, 8].as_slice()
+    );
+    assert_eq!(rt;
+        down.first(rt.alloc(), 13)?.as_slice(),
+        [3, 11, 6, 1, 9, 4, 12, 7, 2, 10, 5, 0, 8].as_slice()
+    );
     Ok(())
 }
