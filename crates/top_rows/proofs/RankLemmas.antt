@@ -1,6 +1,5 @@
 -- Sort keys of different ranks are ordered by their ranks.
-use Rattle.std.proofs.Common.{◌≡◌, ◌⊎◌, inl, inr, ℕ, ℤ, pos, ◌+◌, ◌*◌, ◌-◌, ◌^◌, ◌<◌, ◌≤◌, ◌+ℤ◌, ◌≤ℤ◌, ◌<ℤ◌, refl, ap, ap₂, sym, ◌∙◌, arith}
-use Rattle.std.proofs.Math.ListN.{get_or}
+use Rattle.std.proofs.Common.{◌≡◌, inl, inr, ℕ, ℤ, ◌-◌, ◌<◌, ◌≤◌, ◌<ℤ◌, refl, ap, ap₂, sym, ◌∙◌, arith}
 use Rattle.std.proofs.lemmas.Int.{ints}
 use Rattle.std.proofs.lemmas.List.{drop_at, length-append, length-replicate, length-take, take_at}
 use Rattle.std.specs.Cmp.{int_cmp_is, nat_cmp_is, ranks}
@@ -9,18 +8,17 @@ use Rattle.std.specs.Ordering.{MatchOrdering, nat_cmp, ordering_reverse, orderin
 use Rattle.std.specs.Prelude.{List, [], ◌∷◌, ◌++◌, drop, length, replicate, suc, take, zero}
 use Rattle.std.specs.declared.cmp.Ordering.{Ordering}
 use Rattle.std.specs.declared.cmp.Ordering.TheVariants.{Equal, Greater, Less}
-use Rattle.values.specs.Datum.{Datum, null, truth, whole, text, bytes, list, structure}
+use Rattle.values.specs.Datum.{Datum, truth, whole, text}
 use Rattle.values.specs.contracts.key.KeyOrd.TheImpl as order
 use Rattle.values.specs.declared.key.Key.{Key}
 use Rattle.values.specs.Keys.{datum_of_key}
 use Rattle.values.specs.Order.{datum_cmp}
-use Rattle.values.specs.SmallBytes.{spelled}
 use Rattle.values.proofs.KeyLaws.{keys-ordered}
 use Rattle.values.proofs.WordLemmas.{AreBytes, spelled-cmp, padded}
 use Rattle.top_rows.specs.EntryOrder.{sort_keys_cmp, sort_keys_total, tied_cmp}
 use Rattle.top_rows.specs.declared.sort_key.SortKey.{SortKey}
 use Rattle.top_rows.specs.declared.sort_key.SortKey.TheVariants as sort_key
-use Rattle.top_rows.specs.Ranks.{IsCellRank, IsNumberRank, IsRank, IsTextRank, first_word, half_ranks, key_ranks, negative_ranks}
+use Rattle.top_rows.specs.Ranks.{IsCellRank, IsNumberRank, IsRank, IsTextRank, first_word, half_ranks, key_ranks}
 
 numbers-ranked : (n m : ℤ) (r s : ℕ) → IsNumberRank n r → IsNumberRank m s → r < s → n <ℤ m
 numbers-ranked n m r s (inl (a, p)) (inl (b, q)) l = absurd (omega (arith, ints, p, q, l))

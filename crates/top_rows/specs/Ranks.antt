@@ -24,7 +24,7 @@ use Rattle.std.specs.Prelude.{
   take,
 }
 use Rattle.std.proofs.Math.ListN.{get_or}
-use Rattle.values.specs.Datum.{Datum, null, truth, whole, text, bytes, list, structure}
+use Rattle.values.specs.Datum.{Datum, truth, whole, text}
 use Rattle.values.specs.Keys.{datum_of_key}
 use Rattle.values.specs.SmallBytes.{spelled}
 use Rattle.top_rows.specs.declared.sort_key.SortKey.{SortKey}

@@ -125,19 +125,15 @@ fn orders_keys_of_one_rank(rt: HostRuntime) -> Result<(), Fail> {
         column: 0,
         direction: Direction::Descending,
     };
+    let numbers = [0, 5, 10, 2, 7, 12, 4, 9, 1, 6, 11, 3, 8];
     let mut up = Ordered::new(rt.alloc(), &[rising])?;
     let mut down = Ordered::new(rt.alloc(), &[falling])?;
-    let mut number = 0;
-    for kind in ascending_kinds(rt.alloc())? {
+    for (number, kind) in numbers.iter().zip(ascending_kinds(rt.alloc())?) {
         let row = row(rt.alloc(), kind)?;
-        up.insert(number * 5 % 13, &row.as_slice())?;
-        down.insert(number * 5 % 13, &row.as_slice())?;
-        number += 1;
+        up.insert(*number, &row.as_slice())?;
+        down.insert(*number, &row.as_slice())?;
     }
-    assert_eq!(rt;
-        up.first(rt.alloc(), 13)?.as_slice(),
-        [0, 5, 10, 2, 7, 12, 4, 9, 1, 6, 11, 3, 8].as_slice()
-    );
+    assert_eq!(rt; up.first(rt.alloc(), 13)?.as_slice(), numbers.as_slice());
     assert_eq!(rt;
         down.first(rt.alloc(), 13)?.as_slice(),
         [3, 11, 6, 1, 9, 4, 12, 7, 2, 10, 5, 0, 8].as_slice()

@@ -1,4 +1,4 @@
-use Rattle.std.proofs.Common.{ap₂, sym, subst, ◌∙◌}
+use Rattle.std.proofs.Common.{ap₂, ◌∙◌}
 use Rattle.std.specs.Ordering.{nat_cmp}
 use Rattle.top_rows.specs.EntryOrder.{entry_cmp}
 use Rattle.top_rows.proofs.RankLemmas.{entries-ranked}
