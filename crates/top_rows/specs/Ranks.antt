@@ -52,7 +52,8 @@ IsNumberRank n r =
 abbrev pub first_word : List ℕ → ℕ
 first_word bs = spelled 0 (take 8 bs ++ replicate (8 - length bs) 0)
 
--- The ranks of texts are those of their first 61 bits.
+-- The rank of a text is that of its first 61 bits. That it consists of bytes is part of this: greater numbers spell words
+-- in another order than theirs.
 abbrev pub IsTextRank : List ℕ → ℕ → Type 0
 IsTextRank t r =
     ((k : ℕ) → get_or t k 0 < 256)
