@@ -76,7 +76,7 @@ module _ (old mid new : Ranked) (ns : List (List Key)) (i : ℕ) (e : List Key) 
         (none-there tuple_cmp tuple_total tuple_exact old.ranking.order ns i e h before)
         (λ p. f p ∙ said true old mid e (get_or ns i e) p g r is) k
 
--- What is shown of a group that stays is shown as before.
+-- The row of a group that stays is as before.
 stays-shown : (r : Ranking) (t : List Key) (g next : Grouped) → next.columns ≡ g.columns
     → group_at next t ≡ group_at g t → placed_at r next t ≡ placed_at r g t
 stays-shown r t g next c e =
@@ -87,7 +87,7 @@ stays-shown r t g next c e =
 none-placed : (r : Ranking) (g : Grouped) (t : List Key) → has_entries r ≡ false → placed_at r g t ≡ None
 none-placed r g t h = ap (λ b. cond b (shown_at r g t) None) h
 
--- Where no places are kept, there are none whatever the groups are.
+-- Where no entries are stored, there are none whatever the groups are.
 pub none-follow : (old new : Ranked) → has_entries old.ranking ≡ false → new.ranking ≡ old.ranking
     → new.entries ≡ old.entries → IsRanked old → IsRanked new
 none-follow old new none r p k = record {
@@ -98,7 +98,7 @@ none-follow old new none r p k = record {
       (none-placed new.ranking new.groups q.1 (ap has_entries r ∙ none)));
 }
 
--- The places of the touched tuples are taken away, the groups are changed, and their places are put in.
+-- The entries of the touched tuples are removed, the groups are changed, and their new entries are inserted.
 pub ranked-again : (old new : Ranked) (ns : List (List Key)) (es : List Shift) (next : Grouped)
     → ((t : List Key) → list_any (is_at (tuple_cmp t)) ns ≡ list_any (touches old.groups.keys t) es)
     → StayBut (λ t. list_any (touches old.groups.keys t) es) old.groups next → next.columns ≡ old.groups.columns
@@ -119,7 +119,7 @@ PutsIn next mid last r ns =
     (before : List Key → Option (List Datum)) → KeepsBy tuple_cmp r.order mid (without tuple_cmp ns before)
     → KeepsBy tuple_cmp r.order last (pick tuple_cmp ns (placed_at r next) (without tuple_cmp ns before))
 
--- first the places are taken away, then put in
+-- first entries are removed, then inserted
 pub through : (old : Ranked) (r : Ranking) (next : Grouped) (ns ns1 ns2 : List (List Key))
     (mid1 mid2 last : List GroupEntry) → ns1 ≡ ns → ns2 ≡ ns → mid2 ≡ mid1 → r ≡ old.ranking
     → (IsRanked old → KeepsBy tuple_cmp old.ranking.order mid1
@@ -136,7 +136,7 @@ through old r next ns ns1 ns2 mid1 mid2 last a b m same takes puts k =
     subst (λ x. PutsIn next mid2 last old.ranking x) b (subst (λ x. PutsIn next mid2 last x ns2) same puts) in
     put at taken
 
--- One row's place is put in for that before.
+-- The entry of one row replaces the one before.
 module _ (order : List OrderBy) (t : List Key) (at later : List Key → Option (List Datum))
     (entries next : List GroupEntry) (k : KeepsBy tuple_cmp order entries at)
     (same : (q : List Key) → is_at (tuple_cmp t) q ≡ false → later q ≡ at q) where
@@ -147,7 +147,7 @@ module _ (order : List OrderBy) (t : List Key) (at later : List Key → Option (
       → stands_by tuple_cmp entries p ≡ has_sort_keys order p.0 (at t)
   own-entry p h = k.entries_are p ∙ ap (λ m. has_sort_keys order p.0 (at m)) (own-name p.1 h)
 
-  -- the place before is there
+  -- the entry before is there
   pub stood : (p : GroupEntry) (b : Bool) → is_at (tuple_cmp t) p.1 ≡ b
       → is_entry_by tuple_cmp order t (at t) p ≡ true → stands_by tuple_cmp entries p ≡ true
   stood p true h x =
@@ -212,7 +212,7 @@ itself q entries = λ there p. go there p (is_at (group_entry_cmp q) p) refl
     go there p true x = there p x
     go there p false x = refl
 
--- a place that stays
+-- an entry that stays
 pub same-entry : (q r : GroupEntry) (entries : List GroupEntry) → is_at (group_entry_cmp q) r ≡ true
     → Replaces (Some q) (Some r) entries entries
 same-entry q r entries h =
@@ -232,7 +232,7 @@ pub is-placed : (order : List OrderBy) (t : List Key) (o : Option (List Datum)) 
     → is_at (group_entry_cmp q) p ≡ is_entry_by tuple_cmp order t o p
 is-placed order t o q p found is e = ap (λ x. is_there x p) (sym is ∙ e) ∙ there-entry order t o p
 
--- The place of a row that passes is named by its sort keys.
+-- The entry of a row that passes is given by its sort keys.
 shown-keys : (order : List OrderBy) (t : List Key) (row : List Datum) (c : Bool)
     → named t (option_map (sort_keys_of order) (cond c (Some row) None))
     ≡ option_map (entry_by tuple_cmp order t) (cond c (Some row) None)
@@ -248,13 +248,13 @@ keys-placed r t false None = refl
 keys-placed r t false (Some row) = refl
 keys-placed r t true (Some row) = shown-keys r.order t row (passes r.having row)
 
--- The sort keys that are read of a tuple's group are those of its place.
+-- The sort keys that are read of a tuple's group are those of its entry.
 pub read-placed : (r : Ranking) (g : Grouped) (t : List Key) (read : Option (List SortKey))
     → read ≡ read_at (keys_read r) r.outputs g t
     → named t read ≡ option_map (entry_by tuple_cmp r.order t) (placed_at r g t)
 read-placed r g t read is = ap (named t) is ∙ keys-placed r t (has_entries r) (seen_at r.outputs g t)
 
--- Where the group of one tuple changes, the place of its row is put in for that before.
+-- Where the group of one tuple changes, the entry of its row replaces the one before.
 pub ranked-at : (old new : Ranked) (t : List Key) (next : Grouped) (before after : Option GroupEntry)
     → StayBut (λ q. is_at (tuple_cmp t) q) old.groups next → next.columns ≡ old.groups.columns
     → new.groups ≡ next → new.ranking ≡ old.ranking
@@ -279,7 +279,7 @@ ranked-at old new t next before after stay c g r b a f k =
     subst (λ x. KeepsBy tuple_cmp new.ranking.order new.entries (placed_at new.ranking x)) (sym g)
     (subst (λ x. KeepsBy tuple_cmp x.order new.entries (placed_at x next)) (sym r) kept)
 
--- Where one row comes or goes, the group of its tuple changes.
+-- Where one row is inserted or deleted, the group of its tuple changes.
 pub ranked-one : (old new : Ranked) (keys : List ℕ) (row : List Datum) (t : List Key) (next : Grouped)
     (before after : Option GroupEntry) → t ≡ tuple_of keys row
     → StayBut (λ q. has_tuple keys q row) old.groups next → next.columns ≡ old.groups.columns

@@ -1,4 +1,4 @@
--- The rows of the first places are the first of the definition's group rows.
+-- The rows of the first entries are the first of the definition's group rows.
 use Rattle.std.proofs.Common.{◌≡◌, zero, suc, false, refl, ap, ap₂, sym, ◌∙◌, subst, arith, get_or, length, true≢false}
 use Rattle.std.specs.Prelude.{◌++◌, ◌+◌, ◌<◌, ℕ, Bool, true, cond, filter, List, [], ◌∷◌, map, Option, None, Some, take}
 use Rattle.std.specs.BTreeMap.{is_at}
@@ -183,7 +183,7 @@ passing-at having t (e ∷ es) up =
         rest ∙ sym (ap (λ (a : Bool). cond a (Some e.1) (named tuple_cmp (passing having es) t)) x)
     either false x false y rest = rest
 
--- The rows of the first places are the first group rows that pass, sorted, those that tie by their tuples.
+-- The rows of the first entries are the first group rows that pass, sorted, with ties broken by their tuples.
 pub first-ranked : TuplesAsk → TuplesAscend → TuplesAreOfRows → (s : Ranked) (rows : List (List Datum)) (n : ℕ)
     → Keeps s rows → CanReadAll s.groups.keys s.groups.columns s.ranking.outputs rows
     → IsStrictlySortedBy tuple_cmp (keys_of s.groups.groups) → IsStrictlySortedBy group_entry_cmp s.entries
@@ -225,7 +225,7 @@ rows-more at ts i t so_far next row below is before here pushed =
     ∙ sym (filter_map-append at (take i ts) (get_or ts i t ∷ []))
     ∙ ap (filter_map at) (sym (take_more ts i t below))
 
--- one row stands as it is, if it passes
+-- one row is sorted as it is, if it passes
 pub one-sorted : (order : List OrderBy) (having : Option Filter) (by : List ℕ) (outs : List GroupOutput)
     (rows : List (List Datum)) → length by ≡ 0
     → sorted (row_cmp order) (filter (passes having) (group_rows by outs rows))
@@ -270,7 +270,7 @@ none-either : {X : Type 0} (b : Bool) {o : Option X} → o ≡ None → cond b o
 none-either true h = h
 none-either false h = refl
 
--- Of no rows no place is kept.
+-- No rows have no entries.
 pub none-ranked : (s : Ranked) → s.entries ≡ [] → KeepsGroups s.groups [] → Keeps s []
 none-ranked s e k = record {
   groups_are = k;
@@ -284,7 +284,7 @@ none-ranked s e k = record {
   };
 }
 
--- Without an order rows stand as they stood, and without a filter all pass.
+-- Without an order rows stay in their order, and without a filter all pass.
 
 one-stands : (row : List Datum) (rows : List (List Datum)) → placed (row_cmp []) row rows ≡ row ∷ rows
 unfolding row_cmp
@@ -309,7 +309,7 @@ unranked by outs None [] rows e =
 unranked by outs None (o ∷ os) rows e = absurd (true≢false (sym (lt-ltb 0 (length (o ∷ os)) (omega arith)) ∙ e))
 unranked by outs (Some f) os rows e = absurd (true≢false e)
 
--- Where no places are kept, the first rows of the groups are the first that are shown.
+-- Where no entries are stored, the first rows of the groups are the first that are shown.
 pub first-unranked : (s : Ranked) (g : Grouped) (outs : List GroupOutput) (made : List (List Datum)) (n : ℕ)
     → has_entries s.ranking ≡ false → g ≡ s.groups → outs ≡ s.ranking.outputs
     → ((rows : List (List Datum)) → KeepsGroups g rows → CanReadAll g.keys g.columns outs rows

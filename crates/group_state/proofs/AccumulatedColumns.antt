@@ -1,4 +1,4 @@
--- Columns that are kept stay kept.
+-- Accumulated columns stay accumulated where one is added.
 use Rattle.std.proofs.Common.{◌≡◌, zero, suc, arith, refl, ap₂, sym, subst, get_or, take, true≢false}
 use Rattle.std.proofs.lemmas.Bool.{eq-eqb, eqb-true}
 use Rattle.std.specs.Prelude.{All, Result, Ok, Err, OnOk, Bool, true, false, ◌&&◌, ◌==◌, List, [], ◌∷◌, ◌++◌, length, ℕ, ◌+◌, ◌<◌}
@@ -37,7 +37,7 @@ more-read p columns c here all =
     let P : AccumulatedColumn → Type 0 = λ k. p k.column ≡ true in
     All-append P columns (c ∷ []) all (All-one P c here)
 
--- What was so of all columns stays so with one that an output reads, where it is so of all that the output reads.
+-- What holds of all columns also holds with one that an output reads, where it holds of all that the output reads.
 pub only-read :
     {X E : Type 0} (a : Aggregate) (column : AccumulatedColumn) (old new : List AccumulatedColumn) (r : Result X E)
     → reads a column.column ≡ true

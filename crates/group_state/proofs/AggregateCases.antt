@@ -42,7 +42,7 @@ abbrev number_in : Option AccumulatedColumn → ℕ
 number_in None = zero
 number_in (Some k) = k.column
 
--- What is kept for an output is of the column that it reads.
+-- The accumulated column of an output is the one that it reads.
 pub kept-read : (a : Aggregate) (k : AccumulatedColumn) → Some k ≡ accumulated_for a → reads a k.column ≡ true
 kept-read (aggregate.Key i) k is = absurd (none-some k (sym is))
 kept-read aggregate.Count k is = absurd (none-some k (sym is))
@@ -63,7 +63,7 @@ sum-fits-of (aggregate.Sum k) rows h a = within-fits (length rows) (total (value
 sum-fits-of (aggregate.Least k) rows h a = tt
 sum-fits-of (aggregate.Greatest k) rows h a = tt
 
--- What an output shows of what is kept of rows is the definition's.
+-- What an output reads of the accumulated state of rows is the definition's.
 pub cell-seen : (columns : List AccumulatedColumn) (e : List Key × GroupCounts) (rows : List (List Datum))
     (a : Aggregate) → KeepsRows columns e.1 rows → CanRead columns rows a
     → seen_cell columns e a ≡ aggregate_of a (data_of e.0) rows

@@ -1,4 +1,4 @@
--- Values put among a few ascending ones, and taken from them.
+-- Values inserted into a few ascending ones, and removed from them.
 use Rattle.std.proofs.Common.{◌≡◌, refl, ap, sym, ◌∙◌, subst, arith, ℕ, zero, suc, ◌+◌, ◌-◌, ◌<◌, ◌≤◌, length}
 use Rattle.std.specs.Prelude.{Bool, true, false, cond, List, [], ◌∷◌, ◌++◌, Option, Some, None, drop, get_or, nat_lt, set, slice_get, take}
 use Rattle.std.specs.List.{All, AllByRecursion, insert, remove}
@@ -61,7 +61,7 @@ module _ (k : Key) where
       ap (λ (r : Ordering). cond (is_eq r) es (e ∷ remove_entry (is_at (key_cmp k)) es)) past.0
       ∙ ap (λ (xs : Entries). e ∷ xs) (past_remove n es past.1)
 
-  -- what stands at a place
+  -- the value at a place
 
   pub past_more : (n : ℕ) (es : Entries) (e : Key × ℕ) → slice_get es n ≡ Some e → ArePast k (take n es)
       → key_cmp k e.0 ≡ Greater → ArePast k (take (n + 1) es)
@@ -183,7 +183,7 @@ module _ (k : Key) where
     pub take_absent : (m : ℕ) → take_times k m es ≡ es
     take_absent m = ap (taken k m es) absent
 
-  -- They ascend as before.
+  -- They are in ascending order as before.
 
   pub sorted_put : (m : ℕ) (es : Entries) → IsStrictlySortedBy key_cmp (keys_of es)
       → IsStrictlySortedBy key_cmp (keys_of (put_times k m es))
@@ -203,7 +203,7 @@ module _ (k : Key) where
       → IsStrictlySortedBy key_cmp (keys_of (take_times k m es))
   sorted_take m es s = sorted_taken m es (lookup (is_at (key_cmp k)) es) s
 
--- as they are kept
+-- in the form in which they are stored
 
 abbrev pub AreFew : Entries → Type 0
 AreFew es = IsStrictlySortedBy key_cmp (keys_of es) × All (λ n. 0 < n) (values_of es)
@@ -298,7 +298,7 @@ before_end k n es now view through past =
           absurd (cc);
     }
 
--- put at its place
+-- inserted at its place
 module _ (k : Key) (m n : ℕ) (es mid now new : Entries) (view : es ≡ now) (kept : mid ≡ es) (before : IsBefore k n now)
     (few : AreFew es) (put : new ≡ insert mid n (k, m)) where
   pub inserted : new ≡ put_times k m now
@@ -313,7 +313,7 @@ pub nothing_taken : (k : Key) (m n : ℕ) (es : Entries) → IsBefore k n es →
     → es ≡ take_times k m es
 nothing_taken k m n es before s = sym (take_absent k n es before s m)
 
--- into a tree, one after the other
+-- inserted into a tree, one by one
 
 pub count_at : (es : Entries) (n : ℕ) (e : Key × ℕ) → All (λ m. 0 < m) (values_of es) → n < length es
     → e ≡ get_or es n e → 0 < e.1

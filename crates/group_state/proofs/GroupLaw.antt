@@ -1,4 +1,4 @@
--- Rows that are read out of groups are the group rows of the definition.
+-- Rows that are read of groups are the group rows of the definition.
 use Rattle.std.proofs.Common.{◌≡◌, refl, ap, ap₂, sym, ◌∙◌, subst, arith, true≢false, get_or}
 use Rattle.std.specs.Prelude.{
   ℕ,

@@ -1,4 +1,4 @@
--- How often a value is there after one is put or taken.
+-- How often a multiset has a value after one is inserted or removed.
 use Rattle.std.proofs.Common.{◌≡◌, refl, ap, ◌∙◌, arith, ℕ, ◌+◌, ◌-◌, ◌≤◌, List}
 use Rattle.std.specs.Prelude.{Bool, true, false, cond, Some, None, Option, nat_lt, IsSome}
 use Rattle.std.specs.Option.{unwrap_or}

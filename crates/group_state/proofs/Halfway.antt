@@ -1,4 +1,4 @@
--- A row goes into the tallies of a group, or out of them, one column after the other.
+-- A row is added to the tallies of a group, or removed from them, column by column.
 use Rattle.std.proofs.Common.{◌≡◌, refl, sym, ◌∙◌, arith, ℕ, ◌+◌, ◌<◌, ◌≤◌, List, [], ◌∷◌, subst, length, get_or-set_same, get_or-set_other, ◌≢◌, ⊎_elim}
 use Rattle.std.specs.Prelude.{slice_index_or, slice_set, map, pos, suc, zero}
 use Rattle.std.proofs.lemmas.Bool.{cases_eq}
@@ -17,7 +17,7 @@ use Rattle.group_state.specs.declared.accumulated_columns.AccumulatorForm.{Accum
 use Rattle.group_state.specs.declared.accumulated_columns.AccumulatorForm.TheVariants as kept
 use Rattle.group_state.specs.Rows.{KeepsEach, cells}
 
--- the first n tallies are those of some rows, the others still those of others
+-- the first n tallies are those of the rows of one list, the others still those of another
 pub record Halfway (columns : List AccumulatedColumn) (tallies : List Tally) (n : ℕ) (done left : List (List Datum)) : Type 0 where
   pub count : length tallies ≡ length columns
   pub behind : (i : ℕ) (c : AccumulatedColumn) (d : Tally) → i < n → i < length columns

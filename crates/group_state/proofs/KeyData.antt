@@ -1,4 +1,4 @@
--- Keys, tuples of them, and the values that they are.
+-- Keys, tuples of them, and their values.
 use Rattle.std.proofs.Common.{◌≡◌, refl, ap, ap₂, sym, ◌∙◌, true≢false}
 use Rattle.std.specs.Prelude.{ℕ, zero, suc, Bool, true, false, cond, List, [], ◌∷◌, Option, None, Some}
 use Rattle.std.specs.List.{AllByRecursion}
@@ -60,7 +60,7 @@ members-data by t [] h = refl
 members-data by t (r ∷ rs) h = ap₂ (λ (b : Bool) (l : List (List Datum)). cond b (r ∷ l) l) (test-data by t r h.0)
     (members-data by t rs h.1)
 
--- What keys are is neither a list nor a struct.
+-- The value of a key is neither a list nor a struct.
 
 key-cell : (k : Key) → IsKeyCell (datum_of_key k)
 key-cell (key.Bool b) = refl

@@ -1,4 +1,4 @@
--- What is kept at each tuple after a row is put or taken.
+-- The group of each tuple after a row is inserted or deleted.
 use Rattle.std.proofs.Common.{◌≡◌, refl, sym, ◌∙◌, arith, ℕ, ◌<◌, List, [], ◌∷◌, subst, length}
 use Rattle.std.specs.Prelude.{Bool, true, false, cond, Option}
 use Rattle.std.specs.declared.cmp.Ordering.{Ordering}

@@ -1,4 +1,4 @@
--- A group's rows come or go all at once.
+-- All rows of a group are inserted or deleted at once.
 use Rattle.std.proofs.Common.{◌≡◌, refl, ap, sym, ◌∙◌, subst, arith, ℕ, ◌+◌, ◌-◌, ◌<◌, ◌≤◌, List, [], ◌∷◌, ◌++◌, length}
 use Rattle.std.proofs.lemmas.List.{length-append, length-map, map-append}
 use Rattle.std.specs.Prelude.{ℤ, ◌+ℤ◌, ◌-ℤ◌, Bool, true, false, cond, All, Option, count_by, filter}
@@ -102,7 +102,7 @@ none : {X : Type 0} (xs : List X) → length xs ≡ 0 → xs ≡ []
 none [] h = refl
 none (x ∷ xs) h = absurd (omega (arith, h))
 
--- a group that has no more rows than those that go has no others
+-- a group that has no more rows than are deleted has no others
 pub none-left : (columns : List AccumulatedColumn) (g h : GroupCounts) (rest moved : List (List Datum))
     → KeepsRows columns g (moved ++ rest) → KeepsRows columns h moved → g.rows ≤ h.rows → rest ≡ []
 none-left columns g h rest moved k l few =

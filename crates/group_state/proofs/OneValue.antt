@@ -1,4 +1,4 @@
--- One value with how often it is there: put, and taken.
+-- One value and its count: inserting one, and removing one.
 use Rattle.std.proofs.Common.{◌≡◌, refl, ap, sym, ◌∙◌, arith, ℕ, zero, suc, ◌+◌, ◌-◌, ◌<◌, ◌≤◌}
 use Rattle.std.specs.Prelude.{Bool, true, false, cond, [], ◌∷◌, Some, None, nat_lt}
 use Rattle.std.specs.List.Sorted.{IsStrictlySortedBy}

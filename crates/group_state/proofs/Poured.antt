@@ -1,4 +1,4 @@
--- The values of one multiset come into another, or go out of it, one after the other.
+-- The values of one multiset are added to another, or removed from it, one by one.
 use Rattle.std.proofs.Common.{◌≡◌, refl, ap, sym, ◌∙◌, subst, arith, ℕ, zero, suc, ◌+◌, ◌-◌, ◌<◌, ◌≤◌, List, [], ◌∷◌, ◌++◌, length, drop}
 use Rattle.std.specs.Prelude.{◌^◌, cond, slice_index_or, count_by}
 use Rattle.std.specs.BTreeMap.{is_at}
@@ -20,7 +20,7 @@ use Rattle.group_state.proofs.Folds.{had-first, key_itself}
 abbrev Entries : Type 0
 Entries = List (Key × ℕ)
 
--- values that ascend, none there 0 times
+-- values in ascending order, none with a count of 0
 pub record AreLeft (left : Entries) : Type 0 where
   pub ascend : IsStrictlySortedBy key_cmp (keys_of left)
   pub present : All (λ n. 0 < n) (values_of left)
@@ -31,12 +31,12 @@ left-tail e es l = record {
   present = All-tail (λ n. 0 < n) e.1 (values_of es) l.present;
 }
 
--- so far those came that aren't left
+-- so far those were added that aren't left
 pub record Adds (before all left now : Entries) : Type 0 where
   pub left_are : AreLeft left
   pub so_far : (q : Key) → had now q + had left q ≡ had before q + had all q
 
--- so far those went that aren't left
+-- so far those were removed that aren't left
 pub record Takes (before all left now : Entries) : Type 0 where
   pub left_are : AreLeft left
   pub so_far : (q : Key) → had now q - had left q ≡ had before q - had all q

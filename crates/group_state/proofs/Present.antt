@@ -1,4 +1,4 @@
--- No value is there 0 times.
+-- No value has a count of 0.
 use Rattle.std.proofs.Common.{◌≡◌, refl, subst, sym, arith, ℕ, ◌+◌, ◌-◌, ◌<◌, List}
 use Rattle.std.specs.Prelude.{Bool, true, false, cond, Some, None, Option, nat_lt}
 use Rattle.std.specs.List.{All}

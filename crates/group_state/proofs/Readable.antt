@@ -1,4 +1,4 @@
--- What a column of the output needs is there in some of the rows, where it is there in all of them.
+-- What an output reads of a column can be read of some of the rows, where it can be read of all of them.
 use Rattle.std.proofs.Common.{arith, get_or}
 use Rattle.std.specs.Prelude.{ℕ, zero, suc, ◌<◌, Bool, true, false, cond, List, [], ◌∷◌, filter, length, All}
 use Rattle.std.specs.List.{AllByRecursion}

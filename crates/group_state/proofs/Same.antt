@@ -1,4 +1,4 @@
--- What is kept depends on how many rows pass each test alone.
+-- The state of a group depends only on how many of its rows pass each test.
 use Rattle.std.proofs.Common.{◌≡◌, refl, ap, sym, ◌∙◌, arith, ℕ, ◌+◌, List, [], ◌∷◌, length}
 use Rattle.std.specs.Prelude.{Bool, true, false, cond, Some, None, Option, filter, count_by, slice_index_or}
 use Rattle.std.proofs.lemmas.List.Sums.{length-filter, sum_by-cons}
@@ -53,7 +53,7 @@ nil : {A : Type 0} (xs : List A) → length xs ≡ 0 → xs ≡ []
 nil [] h = refl
 nil (x ∷ xs) h = absurd (omega arith)
 
--- the sum of cells is told by how often each value is among them
+-- the sum of cells is determined by how often each value is among them
 total-weighted : (ds : List Datum) → total (filter is_filled ds) ≡ weighted (multiset_of (keys_in ds))
 total-weighted ds = sym (sum-total ds) ∙ sym (multiset-sum (keys_in ds))
 

@@ -1,4 +1,4 @@
--- The sample change is one of no rows, and a group of one row moves.
+-- The sample change fits no rows, and a group of one row can move.
 use Rattle.std.proofs.Common.{◌≡◌, [], ◌∷◌, ◌∙◌, ap, arith, refl, subst, sym}
 use Rattle.std.proofs.lemmas.List.Elements.{All-cons}
 use Rattle.std.specs.Prelude.{ℕ, cond, List, Some}
@@ -24,7 +24,7 @@ pub sample-fits : Fits [] sample_change
 unfolding IsStrictlySortedBy
 sample-fits = record { ascending = tt; in_turn = (refl, (refl, (refl, (refl, (refl, (refl, tt)))))) }
 
--- Two rows come, and the first of them can go.
+-- Two rows are inserted, and the first of them can be deleted.
 pub none-up : (rows : NumberedRows) → rows ≡ [] → IsStrictlySortedBy nat_cmp (keys_of rows)
 unfolding IsStrictlySortedBy
 none-up [] e = tt
@@ -38,7 +38,7 @@ pub two-up : (x y : List Datum) → IsStrictlySortedBy nat_cmp (keys_of (with_at
 unfolding IsStrictlySortedBy
 two-up x y = ((refl, tt), (tt, tt))
 
--- The group of one row is part of rows among which it is.
+-- The group of one row is part of the rows that have this row.
 pub part-of_one : (s : Grouped) (keys : List ℕ) (columns : List AccumulatedColumn) (t : List Key) (g : GroupCounts)
     (row : List Datum) (all others : List (List Datum)) → s.keys ≡ keys → s.columns ≡ columns → Keeps s (row ∷ [])
     → t ≡ tuple_of s.keys row → lookup (is_at (tuple_cmp t)) s.groups ≡ Some g → AreTogether all (row ∷ []) others

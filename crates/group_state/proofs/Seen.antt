@@ -1,4 +1,4 @@
--- What outputs show of what is kept of rows is the definition's, where it can be read.
+-- What outputs read of the accumulated state of rows is the definition's, where it can be read.
 use Rattle.std.proofs.Common.{◌≡◌, refl, ap₂, ◌∙◌, arith}
 use Rattle.std.specs.Prelude.{suc, List, [], ◌∷◌, map, All}
 use Rattle.values.specs.Datum.{Datum}

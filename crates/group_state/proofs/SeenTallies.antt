@@ -1,4 +1,4 @@
--- The tally of a column that is kept is there, and is that of its cells; what outputs show of a column is read of it.
+-- An accumulated column has a tally, which is that of its cells; what outputs show of the column is read of it.
 use Rattle.std.proofs.Common.{◌≡◌, refl, ap, sym, ◌∙◌, subst, arith, get_or}
 use Rattle.std.specs.Prelude.{
   ℕ,

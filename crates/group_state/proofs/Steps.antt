@@ -1,4 +1,4 @@
--- One row after the other of a change.
+-- The rows of a change, one by one.
 use Rattle.std.proofs.Common.{◌≡◌, ap, sym, ◌∙◌, arith, ℕ, ◌+◌, ◌<◌, ◌≤◌, List, [], ◌∷◌, length, take, drop, get_or, add-one, drop-cons}
 use Rattle.std.specs.Prelude.{Some, None, Option, suc}
 use Rattle.std.proofs.lemmas.List.Sums.{fold_more}

@@ -1,4 +1,4 @@
--- Lists taken apart and made again, one item after the other.
+-- Lists converted to parts and back, item by item.
 use Rattle.view_lang.proofs.LastEntries.{entry-next}
 use Rattle.std.proofs.Common.{◌≡◌, ap, sym, ◌∙◌, subst}
 use Rattle.std.proofs.lemmas.List.Elements.{All-head, All-push, All-tail}
@@ -11,7 +11,7 @@ use Rattle.std.specs.Map.{keys_of}
 use Rattle.std.specs.Prelude.{◌++◌, List, [], ◌∷◌, map}
 use Rattle.std.specs.declared.cmp.Ordering.{Ordering}
 
--- the first item that is left comes to those that were taken
+-- the next item is appended to those that were converted
 pub taken-next : {A B : Type 0} (f : A → B) (xs ys : List A) (x : A) (b : B) (left rest all : List B)
     → ys ≡ xs ++ x ∷ [] → left ≡ b ∷ rest → f x ≡ b → map f xs ++ left ≡ all → map f ys ++ rest ≡ all
 taken-next f xs ys x b left rest all new is same whole =
@@ -32,7 +32,7 @@ module _ {A : Type 0} (P : A → Type 0) (x : A) (left rest : List A) (is : left
   pub rest-left : All P rest
   rest-left = All-tail P x rest (subst (All P) is all)
 
--- the first item that is left is put to what is made again
+-- the next item is inserted into what was rebuilt
 pub made-next : {A K X : Type 0} (R : K → K → Ordering) → IsTotalOrder R → (f : A → K × X) (es fs : List (K × X))
     (k : K) (v : X) (x : A) (left rest all : List A) → left ≡ x ∷ rest → f x ≡ (k, v) → fs ≡ insert_entry R es k v
     → es ++ map f left ≡ map f all → IsStrictlySortedBy R (keys_of (map f all)) → fs ++ map f rest ≡ map f all
@@ -41,7 +41,7 @@ made-next R o f es fs k v x left rest all is same new whole s =
     ∙ entry-next R o es k v (map f rest) (map f all)
     (ap (λ e. es ++ e ∷ map f rest) (sym same) ∙ ap (λ l. es ++ map f l) (sym is) ∙ whole) s
 
--- the first item that is left comes last in what is made again
+-- the next item is the last of what was rebuilt
 pub pushed-next : {A B : Type 0} (f : A → B) (es fs : List B) (b : B) (x : A) (left rest : List A) (all : List B)
     → left ≡ x ∷ rest → f x ≡ b → fs ≡ es ++ b ∷ [] → es ++ map f left ≡ all → fs ++ map f rest ≡ all
 pushed-next f es fs b x left rest all is same new whole =

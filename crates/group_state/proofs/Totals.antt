@@ -102,7 +102,7 @@ module _ (t : Total) (d : Datum) (ds : List Datum) where
         k.total_is (omega (arith, ints, next));
   }
 
--- What holds of a total holds of the tally that it is, in whichever form, and so with the values.
+-- What holds of a total holds of the tally that has it, in either form, and likewise of values.
 
 pub total-of : (form : AccumulatorForm) (t : Total) (ds : List Datum) → KeepsCells form (tally.Total t) ds → KeepsTotal t ds
 total-of kept.Total t ds k = k
@@ -123,7 +123,7 @@ pub values-follow : (es fs : List (Key × ℕ)) (cs ds : List Datum) → (KeepsV
 values-follow es fs cs ds f kept.Total k = absurd k
 values-follow es fs cs ds f kept.Values k = f k
 
--- So it is with what holds of two of one form.
+-- The same of what holds of two tallies of one form.
 
 pub totals-join : (form : AccumulatorForm) (t u v : Total) (cs ds es : List Datum)
     → (KeepsTotal t cs → KeepsTotal u ds → KeepsTotal v es) → KeepsCells form (tally.Total t) cs

@@ -1,4 +1,4 @@
--- Groups that a change doesn't touch stay.
+-- Groups that a change doesn't touch stay as they are.
 use Rattle.std.proofs.Common.{◌≡◌, refl, ap, sym, ◌∙◌, get_or, take, true≢false}
 use Rattle.std.specs.Prelude.{ℕ, ◌+◌, ◌<◌, ◌||◌, Bool, true, false, cond, List, [], ◌∷◌, length}
 use Rattle.std.specs.BTreeMap.{is_at}
@@ -34,7 +34,7 @@ stay-more f old mid new es i d e h is keys a b = λ t n.
     let second = or-second (list_any (f old.keys t) (take i es)) (f old.keys t (get_or es i d)) both in
     b t (ap (λ k. f k t e) keys ∙ ap (f old.keys t) is ∙ second) ∙ a t first
 
--- what comes and what goes are touched
+-- the tuples of inserted and of deleted rows are touched
 pub untouched : (keys : List ℕ) (t : List Key) (es : List Shift) → list_any (touches keys t) es ≡ false
     → (list_any (goes keys t) es ≡ false) × (list_any (comes keys t) es ≡ false)
 untouched keys t [] h = (refl, refl)

@@ -49,7 +49,7 @@ past_by k a b x y Less Equal p q h n l =
     ap (key_cmp a) (sym (key_exact k b q)) ∙ key_total.antisymm a k ∙ ap ordering_reverse p in
     absurd (true≢false (ap is_le (sym l ∙ ap (λ r. ordering_then r y) turned)))
 
--- After a tuple that lies past those that begin with a key, none does.
+-- After a tuple that is greater than all that begin with a key, none begins with it.
 past : (k : Key) (x y : List Key) → is_from k x ≡ true → begins_with k x ≡ false → tuple_cmp x y ≡ Less
     → begins_with k y ≡ false
 past k [] y h n l = absurd (true≢false (sym h))
@@ -133,7 +133,7 @@ module _ (k : Key) where
   abbrev among : List Key → List (List Key) → Bool
   among t ts = list_any (is_at (tuple_cmp t)) ts
 
-  -- The entries that are left lie in the range; of all tuples that begin with the key those of the others are there.
+  -- The entries that are left lie in the range; all other tuples that begin with the key were found.
   pub record Walks (all left : List (List Key × GroupCounts)) (before tuples : List (List Key)) : Type 0 where
     pub ascend : IsStrictlySortedBy tuple_cmp (keys_of left)
     pub from : AreFrom left
@@ -202,7 +202,7 @@ module _ (k : Key) where
       ∙ ap₂ (λ c b. (c && is_at (tuple_cmp t) e.0) || b) past_it (none-under t e.0 next own.ascend.0 own.from.0 past_it))
       w
 
--- The keys that values are.
+-- The keys of values.
 
 or-turned : (a b : Bool) → cond a true b ≡ (b || a)
 or-turned true true = refl

@@ -118,7 +118,7 @@ pub ruleset aggregate_sizes = (renamed-size)
 
 pub ruleset aggregate_types = (renamed-type, sum-ordered)
 
--- a place that was found is there
+-- an index that was found is within the list
 place-found : (i n : ℕ) (ns : List ℕ) (k : ℕ) → place_of i n ns ≡ Some k → k < i + length ns
 place-found i n [] k e = cc
 place-found i n (m ∷ ms) k e =

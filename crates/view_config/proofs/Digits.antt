@@ -20,7 +20,7 @@ held-digit : (b : Bool) (n m : ℕ) (cs : List ℕ) → held (digits_after n cs)
 held-digit true n m cs e = e
 held-digit false n m cs e = refl
 
--- What is held of a number at its start is enough for what is held of it at its end.
+-- The bound of a number at its start is enough for that at its end.
 held-start : (m : ℕ) (cs : List ℕ) → held (digits_after (min m top) cs) ≡ held (digits_after m cs)
 held-start m [] = let e : min (min m top) top ≡ min m top = omega arith in ap (λ n. Some n) e
 held-start m (c ∷ cs) =
@@ -41,7 +41,7 @@ digits-step m cs i d h = rw (drop_more cs i d h) (by_digit (is_digit (get_or cs 
   by_digit true = sym (held-start (10 * m + (get_or cs i d - 48)) (drop (i + 1) cs))
   by_digit false = refl
 
--- Where it is one, the number is held that it makes.
+-- Where it is one, the number with it is held.
 pub digits-more :
     (m n : ℕ) (cs : List ℕ) (i d : ℕ) → i < length cs → is_digit (get_or cs i d) ≡ true
     → n ≡ min (10 * m + (get_or cs i d - 48)) top

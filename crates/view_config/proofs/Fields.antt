@@ -1,4 +1,4 @@
--- A field by the levels that may lie below it.
+-- A field by the levels that may be below it.
 use Rattle.std.proofs.Common.{◌≡◌, ℕ, zero, suc, ◌-◌, ◌<◌, List, refl, arith, Err}
 use Rattle.toml.specs.Data.{Data}
 use Rattle.values.specs.Reading.{one}

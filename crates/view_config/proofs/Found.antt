@@ -1,4 +1,4 @@
--- What is found by its name stands at its number.
+-- What is found by its name is at its number.
 use Rattle.std.proofs.Common.{◌≡◌, inl, inr, ℕ, suc, ◌+◌, ◌-◌, List, [], ◌∷◌, ◌++◌, length, ap, sym, subst, ◌∙◌, arith, Ok, Err, Some, Bool, true, false, slice_get}
 use Rattle.std.specs.Prelude.{codes, if◌then◌else◌}
 use Rattle.std.specs.Str.{bytes_eq}

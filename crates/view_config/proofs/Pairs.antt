@@ -76,7 +76,7 @@ pub nothing-behind : (o : Option (List ℕ)) → behind [] o ≡ o
 nothing-behind None = refl
 nothing-behind (Some ys) = refl
 
--- what must be there, and isn't
+-- a required part that is missing
 pub must_None : {X : Type 0} (c : ConfigFault) (o : Option X) → o ≡ None → FailsWith (must c o) c
 must_None c o e = subst (λ (p : Option _). FailsWith (must c p) c) (sym e) refl
 
@@ -85,7 +85,7 @@ must_Some c o x e = ap (must c) e
 
 pub ruleset paired = (pairs-odd, pairs_step, pairs_stop, pairs_end, nothing-behind, must_None, must_Some)
 
--- what is made of what must be there
+-- what is made of a required part
 pub must-then :
     {X Y : Type 0} (c : ConfigFault) (o : Option X) (f : X → Option Y) (x : X) → must c o ≡ Ok x
     → must c (and_then o f) ≡ must c (f x)

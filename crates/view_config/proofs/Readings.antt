@@ -1,4 +1,4 @@
--- What a reading without a fault was made of.
+-- The parts of a reading without a fault.
 use Rattle.std.proofs.Common.{◌≡◌, ◌⊎◌, inl, inr, List, [], refl, subst, Ok, Err, Some, Option, Bool, true, false}
 use Rattle.std.specs.Prelude.{All, if◌then◌else◌}
 use Rattle.std.proofs.lemmas.List.Elements.{All-nil, All-cons}
@@ -16,7 +16,7 @@ pub bound :
 bound (Ok x) f y e k = k x refl e
 bound (Err fs) f y e k = cc
 
--- what a test lets through
+-- what passes a test
 pub test_Some :
     {X : Type 0} (b : Bool) (x y : X) (o : Option X) → (if b then Some x else o) ≡ Some y → (x ≡ y) ⊎ (o ≡ Some y)
 test_Some true x y o e = inl cc
@@ -28,7 +28,7 @@ pub test_Ok :
 test_Ok true m fs x e = (refl, e)
 test_Ok false m fs x e = cc
 
--- What holds of each thing that is read so holds of all.
+-- What holds of each item that is read holds of all of them.
 pub items_all :
     {X : Type 0} (P : X → Type 0) (f : Data → Reading X) (ds : Items) (xs : List X)
     → ((d : Data) (x : X) → f d ≡ Ok x → P x)

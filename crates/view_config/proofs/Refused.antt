@@ -1,4 +1,4 @@
--- What came of reading a part tells whether it is refused, and a refused part whether the whole is.
+-- The outcome of reading a part tells whether it is refused, and a refused part that the whole is.
 use Rattle.std.proofs.Common.{◌≡◌, Option, None, Some, Result, Ok, Err, is_err, true, refl, subst, sym}
 use Rattle.values.specs.Reading.{◌>>=◌, both, FailsWith}
 use Rattle.view_config.specs.Places.{Finds}

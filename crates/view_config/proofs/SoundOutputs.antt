@@ -104,7 +104,7 @@ group-output-sound s by d o t e =
     subst (IsGroupOutput (fields_of s) by) made.2
     (name-text out.0 name n texts.0, aggregate-sound s by word.0 word.1 made.0 made.1)))))
 
--- what holds of each thing that is read from texts so holds of all
+-- what holds of each item that is read from texts holds of all of them
 each-sound :
     {X : Type 0} (P : X → Type 0) (f : Data → Reading X) (ds : Items) (xs : List X)
     → ((d : Data) (x : X) → IsTextual d → f d ≡ Ok x → P x) → AreTextual ds → each_item f ds ≡ Ok xs → All P xs

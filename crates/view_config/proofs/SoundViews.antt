@@ -160,7 +160,7 @@ pub outputs-ready :
     → outputs_of s g (view v) ≡ Ok os → AreOutputs (fields_of s) os
 outputs-ready s o g v os e f = (outputs-sound s g (view v) os (group-in-sound s o g e) (value-textual v) f).rules
 
--- What is said of which groups are shown leaves the columns as they are.
+-- The filter of groups leaves the columns as they are.
 record IsShown (fields : List (Rose NamedType)) (all os : Outputs) : Type 0 where
   rules : AreOutputs fields os
   made : output_fields fields os ≡ output_fields fields all
@@ -183,7 +183,7 @@ having-sound s (groups by outputs having) (Some d) os rules none e =
     subst (IsShown (fields_of s) (groups by outputs having)) read.2
     (record { rules = rules; made = refl; having = kept })
 
--- So do those that are shown.
+-- Outputs that were read with such a filter keep their rules.
 pub shown-ready :
     (s : Scope) (g o : Option Data) (by : Option (List ℕ)) (v : Value) (all os : Outputs)
     → perhaps (group_of s) g ≡ Ok by → outputs_of s by (view v) ≡ Ok all

@@ -59,7 +59,7 @@ module _ (fs : List (Rose NamedType)) (a : AreSuch fs) where
   aggregate_such by name (aggregate.Greatest k) ordered text is =
       column_renamed (field_at fs k) name text (column_at fs k a is.0)
 
--- What it is of the rows of a group is held by its column.
+-- Its value of the rows of a group is held by its column.
 
 module _ (fs : List (Rose NamedType)) (such : AreSuch fs) (rows : List (List Datum)) (all : All (AreFit fs) rows)
     (few : length rows ≤ max_main_rows) where
@@ -83,7 +83,7 @@ module _ (fs : List (Rose NamedType)) (such : AreSuch fs) (rows : List (List Dat
   aggregate_fits by name (aggregate.Least k) tuple is held = first_of_column fs such rows all few _ name k is.0
   aggregate_fits by name (aggregate.Greatest k) tuple is held = first_of_column fs such rows all few _ name k is.0
 
--- What it adds is small.
+-- The numbers that it adds are small.
 
 pub summable :
     (fs : List (Rose NamedType)) (by : List ℕ) (x : Aggregate) (row : List Datum) → IsAggregate fs by x → AreFit fs row
@@ -97,7 +97,7 @@ summable fs by (aggregate.Sum k) row is fit =
 summable fs by (aggregate.Least k) row is fit = tt
 summable fs by (aggregate.Greatest k) row is fit = tt
 
--- What it compares has keys.
+-- The cells that it compares have keys.
 
 module _ (fs : List (Rose NamedType)) (row : List Datum) (fit : AreFit fs row) where
   pub compared_keys : (by : List ℕ) (x : Aggregate) → IsAggregate fs by x → ComparesKeys x row

@@ -51,7 +51,7 @@ AreFit [] (c ∷ cs) = ⊥
 AreFit (f ∷ fs) [] = ⊥
 AreFit (f ∷ fs) (c ∷ cs) = Fits (tree_of f) c × AreFit fs cs
 
--- The cells of a row are such, and such cells are a row where they are few.
+-- The cells of a row fit, and cells that fit are a row where they are few.
 
 cells_fit :
     (fs : List (Rose NamedType)) (row : List Datum) → HoldsEach (trees_of (kids_of fs)) (items_of row)

@@ -48,7 +48,7 @@ one_more_alike x xs ys h k =
 pub same_symm : (x y : Datum) → same_key x y ≡ same_key y x
 same_symm x y = (eq_by_cmp_equiv datum_cmp_total).symm x y
 
--- What is asked for can be taken for what is the same.
+-- A value can be replaced by an equal one.
 pub among_alike : (x y : Datum) (ds : List Datum) → same_key x y ≡ true → is_among x ds ≡ is_among y ds
 unfolding is_among
 among_alike x y [] h = refl

@@ -46,7 +46,7 @@ use Rattle.view_lang.specs.declared.view.Missing.{Missing}
 use Rattle.view_lang.specs.declared.view.Missing.TheVariants as missing
 use Rattle.view_lang.proofs.CellFits.{AreFit, append_fits, nulls_fit, row_fits}
 
--- What a map to options leaves of rows
+-- The rows that a map to options leaves
 
 mapped_some : {X Y : Type 0} (P : Y → Type 0) (h : X → Option Y) (xs : List X) (y : Option Y) → IfSome y P
     → All P (filter_map h xs) → All P (cons_option y (filter_map h xs))

@@ -1,4 +1,4 @@
--- What a kept order and kept multisets rest on.
+-- Laws on which stored orders and multisets rest.
 use Rattle.std.proofs.Common.{◌≡◌, Bool, true, false, cond, List, [], ◌∷◌, map, refl, sym, ap, ◌∙◌, true≢false}
 use Rattle.std.specs.declared.cmp.Ordering.{Ordering}
 use Rattle.std.specs.declared.cmp.Ordering.TheVariants.{Less, Equal, Greater}
@@ -63,7 +63,7 @@ module _ {X : Type 0} (cmp : X → X → Ordering) (all : IsTotalOrder cmp) wher
       go false true h k more = rw (above y x z k h, k, h) refl
       go false false h k more = rw (h, k) (both_first x y (z ∷ zs) exact)
 
--- elements that ascend by their places are arranged as by their places where they tie
+-- elements in ascending order of their places are arranged by their places where they tie
 module _ {A X : Type 0} (f : A → X) (cmp : X → X → Ordering) (place : A → A → Ordering) where
   abbrev With : A → A → Ordering
   With = then_cmp (on f cmp) place

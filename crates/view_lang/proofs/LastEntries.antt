@@ -28,7 +28,7 @@ module _ {K : Type 0} (R : K → K → Ordering) (o : IsTotalOrder R) where
       (above x k (past-keys x k xs rest s.0))
       ∙ ap (λ (l : List K). x ∷ l) (key-last k xs rest s.1)
 
-  -- the first key of those that are left is put to those that are there
+  -- the next key is inserted into those that are there
   pub key-next : (xs : List K) (k : K) (rest all : List K) → xs ++ k ∷ rest ≡ all → IsStrictlySortedBy R all
       → insert_key R xs k ++ rest ≡ all
   key-next xs k rest all whole s =
@@ -54,7 +54,7 @@ module _ {K : Type 0} (R : K → K → Ordering) (o : IsTotalOrder R) where
         (above e.0 k (past-entries e.0 k v es rest s.0))
         ∙ ap (λ (l : List (K × X)). e ∷ l) (entry-last k v es rest s.1)
 
-    -- the first entry of those that are left is put to those that are there
+    -- the next entry is inserted into those that are there
     pub entry-next : (es : List (K × X)) (k : K) (v : X) (rest all : List (K × X)) → es ++ (k, v) ∷ rest ≡ all → Up all
         → insert_entry R es k v ++ rest ≡ all
     entry-next es k v rest all whole s =

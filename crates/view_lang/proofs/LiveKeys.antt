@@ -95,7 +95,7 @@ among_append k [] ys p q = q
 among_append k (x ∷ xs) ys p q =
     both_false _ _ (left_false _ _ p) (among_append k xs ys (right_false (same_key k x) (is_among k xs) p) q)
 
--- None of the others is the first, nor among the rest.
+-- None of the others is the first or among the rest.
 apart_from_first : (x : Datum) (xs ys : List Datum) → any_among ys (x ∷ xs) ≡ false → is_among x ys ≡ false
 unfolding is_among any_among
 apart_from_first x xs [] h = refl

@@ -1,4 +1,4 @@
--- Group rows depend on which rows there are, and not on where they stand.
+-- Group rows depend on which rows there are, and not on their order.
 use Rattle.std.proofs.Common.{◌≡◌, ℕ, List, [], ◌∷◌, map, refl, ap, ap₂, ◌∙◌}
 use Rattle.std.specs.List.{AllByRecursion, dedup}
 use Rattle.std.specs.List.Sorted.{IsPermutation}

@@ -1,4 +1,4 @@
--- The orders of cells, tuples and rows are total: any two are ranked, and ties are alike.
+-- The orders of cells, tuples and rows are total: any two are ordered, and those that tie are alike.
 use Rattle.std.proofs.Common.{◌≡◌, refl, sym, subst}
 use Rattle.std.specs.Prelude.{ℕ, ℤ, pos, true, false, List, [], ◌∷◌}
 use Rattle.std.specs.declared.cmp.Ordering.{Ordering}

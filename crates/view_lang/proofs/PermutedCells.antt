@@ -64,7 +64,7 @@ pub all-map : {X Y : Type 0} (P : Y → Type 0) (f : X → Y) (xs : List X) → 
 all-map P f [] all = tt
 all-map P f (x ∷ xs) all = (all.0, all-map P f xs all.1)
 
--- what holds of a list and itself, goes under a head, and stands an exchange of the two first, holds of each
+-- what holds of a list and itself, also with a head before both, and where the first two are exchanged, holds of each
 -- rearrangement
 module _ {X : Type 0} (R : List X → List X → Type 0)
     (same : (xs : List X) → R xs xs)
@@ -93,7 +93,7 @@ module _ {X : Type 0} (R : List X → List X → Type 0)
   pub along_permutation : (xs ys : List X) → IsPermutation xs ys → R xs ys
   along_permutation xs = IsPermutation-keeps xs (R xs) (same xs) (λ l i j p q h. chain xs l _ h (swapped l i j p q))
 
--- Whatever is asked for is among both, and as many values are distinct.
+-- A value is in both or in neither, and both have as many distinct values.
 abbrev AskAlike : List Datum → List Datum → Type 0
 AskAlike xs ys = ((d : Datum) → is_among d xs ≡ is_among d ys) × (length (distinct xs) ≡ length (distinct ys))
 

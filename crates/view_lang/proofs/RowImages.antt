@@ -1,4 +1,4 @@
--- Changes of rows are changes of what is made of each of them.
+-- Changes of rows are changes of the projection of each of them.
 use Rattle.std.proofs.Common.{◌≡◌, refl, ap, sym, ◌∙◌, subst}
 use Rattle.std.specs.Prelude.{ℕ, Bool, true, false, cond, List, [], ◌∷◌, map, Option, Some, None}
 use Rattle.std.specs.Option.{option_and_then}
