@@ -107,7 +107,7 @@ all that is linked in.
 CONTROL = """Package: liveviews
 Version: {version}
 Architecture: {architecture}
-Maintainer: The maintainers of lv <lv@localhost>
+Maintainer: Riskaoul maintainers <maintainers@users.noreply.riskaoul.example>
 Installed-Size: {size}
 Depends: {libc}
 Recommends: python3
