@@ -138,14 +138,27 @@ fn is_at(kept: &[RetainedEntry], place: usize, number: usize) -> bool
     }
 }
 
+/// The position of the entry of this number where none from it on was removed.
+fn place_from_end(kept: &[RetainedEntry], number: usize) -> usize {
+    let [.., last] = kept else {
+        return 0;
+    };
+    let after = last.number.saturating_sub(number);
+    kept.len().saturating_sub(1).saturating_sub(after)
+}
+
 /// The position of the entry of this number, if it is retained.
 fn place_of(kept: &[RetainedEntry], number: usize) -> Option<usize>
     requires { (len : ℕ) × AreInOrder 0 kept.now len }
     ensures { MatchOption result (entry_in kept.now number ≡ gone_entry) (IsRetainedAt kept.now number) }
 {
-    // Where no row before it was released, its position is the number itself.
+    // Where no entry before it was removed, its position is the number itself.
     if is_at(kept, number, number) {
         return Some(number);
+    }
+    let last = place_from_end(kept, number);
+    if is_at(kept, last, number) {
+        return Some(last);
     }
     let place = count_below(kept, number);
     if is_at(kept, place, number) {
@@ -163,7 +176,7 @@ fn next_retained(kept: &[RetainedEntry], number: usize, len: usize) -> usize
     ensures within { result ≤ len }
     ensures gone { (k : ℕ) → number ≤ k → k < result → entry_in kept.now k ≡ gone_entry }
 {
-    // Where no row before it was released, its position is the number itself.
+    // Where no entry before it was removed, its position is the number itself.
     if is_at(kept, number, number) {
         return number;
     }

@@ -19,7 +19,7 @@ struct Run {
 }
 
 /// The index of the chunk that has this number, if there is one. The chunk at index `near` is tried first.
-fn chunk_near(chunks: &[StoredChunk], near: usize, number: usize) -> Option<usize>
+pub(crate) fn chunk_near(chunks: &[StoredChunk], near: usize, number: usize) -> Option<usize>
     requires { (len : ℕ) × AreChunks 0 chunks.now len }
     ensures { MatchOption result (row_in chunks.now number ≡ []) (LiesIn chunks.now number) }
 {

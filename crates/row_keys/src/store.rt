@@ -572,6 +572,7 @@ impl RowStore {
         ensures counted { self.new ≡ visited 1 self.old }
     {
         self.visits = self.visits.saturating_add(1);
+        self.rows.seek(number);
         Visit::new(number)
     }
 

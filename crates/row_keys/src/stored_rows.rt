@@ -50,7 +50,7 @@ ghost use Rattle.row_keys.specs.RowsLeft.{IsHeld, IsSplit};
 
 use crate::locating::{StoredLocations, locate_rows, locate_rows_if};
 use crate::rewriting::{merge, write_tail};
-use crate::runs::find_ranges;
+use crate::runs::{chunk_near, find_ranges, locate_near};
 use crate::stored_chunk::{StoredChunk, flags, index_of, release_in, row_of, shorten};
 use crate::stored_row::StoredRow;
 use arrays::Column;
@@ -86,6 +86,8 @@ pub(crate) struct StoredRows {
     len: usize,
     // How many chunks have no columns.
     spent: usize,
+    // The index of the chunk that is looked at first.
+    near: usize,
 }
 
 impl Model for StoredRows {
@@ -148,15 +150,6 @@ pub(crate) fn index_in(chunks: &[StoredChunk], place: usize, number: usize) -> O
         chunk: place,
         index,
     })
-}
-
-/// Where the row of this number lies, if it is retained.
-fn locate(chunks: &[StoredChunk], number: usize) -> Option<Location>
-    requires { (len : ℕ) × AreChunks 0 chunks.now len }
-    ensures { MatchOption result (row_in chunks.now number ≡ []) (λ at. LiesAt chunks.now number at.chunk at.index) }
-{
-    let place = chunk_of(chunks, number)?;
-    index_in(chunks, place, number)
 }
 
 /// Releases row `index` of the chunk at this index. It returns whether the chunk's columns were released.
@@ -350,6 +343,7 @@ impl StoredRows {
             chunks: Vec::new(alloc),
             len: 0,
             spent: 0,
+            near: 0,
         }
     }
 
@@ -363,6 +357,7 @@ impl StoredRows {
             chunks,
             len,
             spent: 0,
+            near: 0,
         }
     }
 
@@ -376,6 +371,7 @@ impl StoredRows {
             chunks,
             len: _,
             spent: _,
+            near: _,
         } = self;
         chunks
     }
@@ -418,7 +414,7 @@ impl StoredRows {
     pub(crate) fn release(&mut self, number: usize)
         ensures { self.new ≡ slice_set self.old number [] }
     {
-        let Some(at) = locate(&self.chunks, number) else {
+        let Some(at) = locate_near(&self.chunks, self.near, number) else {
             return;
         };
         if release_at(self.alloc, &mut self.chunks, at.chunk, at.index) {
@@ -558,11 +554,18 @@ impl StoredRows {
         self.ease_at(number);
     }
 
+    /// Looks at the chunk of this number first from now on.
+    pub(crate) fn seek(&mut self, number: usize)
+        ensures { self.new ≡ self.old }
+    {
+        self.near = chunk_near(&self.chunks, self.near, number).unwrap_or(self.near);
+    }
+
     /// The row of this number: without cells where it is released, or was never added.
     pub(crate) fn row(&self, number: usize) -> StoredRow<'_>
         ensures { result ≡ get_or self.now number [] }
     {
-        let Some(at) = locate(&self.chunks, number) else {
+        let Some(at) = locate_near(&self.chunks, self.near, number) else {
             return StoredRow::new(&[], 0);
         };
         row_of(&self.chunks[at.chunk], at.index)
