@@ -96,6 +96,7 @@ Reports that stay exact while their tables change: `lv` takes streams of Apache 
 declared view.
 
     make install                installs below /usr/local; PREFIX=.. sets another folder, DESTDIR=.. a root for packages
+    ldconfig                    lets programs find liblv there
     make uninstall              takes the files away again
     pip install ./python        the package `lv` of Python, which loads liblv
 
