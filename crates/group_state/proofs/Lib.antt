@@ -26,4 +26,5 @@ pub mod SampleFits
 pub mod Taken
 pub mod Totals
 pub mod Touched
+pub mod TupleRanks
 pub mod Under

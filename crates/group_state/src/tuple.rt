@@ -4,12 +4,14 @@ ghost use Rattle.std.specs.Prelude.{◌≡◌, ◌∷◌, All, IfOk, [], length}
 ghost use Rattle.values.specs.CellViews.{shallow, viewed};
 ghost use Rattle.view_lang.specs.Cells.{cell_at};
 ghost use Rattle.group_state.specs.Moves.{begins_with};
-ghost use Rattle.group_state.specs.Keys.{data_of, key_in};
+ghost use Rattle.group_state.specs.Keys.{data_of, key_in, tuple_cmp};
 ghost use Rattle.group_state.specs.Rows.{cell};
+ghost use Rattle.group_state.specs.TupleKeys.{IsTupleRank};
 ghost use Rattle.group_state.specs.Tuples.{tuple_of};
 
 use crate::cells::no_value;
 use crate::row_cells::key_at;
+use key_ranks::key_rank;
 use std::alloc::{AllocError, Global};
 use std::cmp::Ordering;
 use std::marker::Model;
@@ -25,20 +27,23 @@ enum TupleKeys {
 }
 
 /// A grouping tuple: the keys of a row's cells in the grouping columns, in order. That of one column takes no memory
-/// but what its key takes. Contracts see the list of keys.
+/// but what its key takes. Contracts see the list of keys. Most tuples are told apart by the rank of their first key.
 #[derive(Debug, Drop)]
 pub struct Tuple {
+    rank: u64,
     keys: TupleKeys,
 }
 
 impl Model for Tuple {
-    ghost use Rattle.group_state.specs.TupleKeys.{keys_in};
+    ghost use Rattle.group_state.specs.TupleKeys.{IsTupleRank, keys_in};
     ghost use Rattle.std.specs.Prelude.{List};
     ghost use Rattle.values.specs.declared.key.Key.{Key};
 
     ghost Value = { List Key };
 
     ghost view = { λ t. keys_in t.keys };
+
+    ghost invariant = { λ t. IsTupleRank (keys_in t.keys) t.rank };
 }
 
 impl PartialEq for Tuple {
@@ -89,9 +94,9 @@ impl Ord for Tuple {
     ghost matches_eq = { λ x y. refl };
 
     fn cmp(&self, other: &Tuple) -> Ordering {
-        match (&self.keys, &other.keys) {
-            (TupleKeys::One(key), TupleKeys::One(other)) => key.cmp(other),
-            _ => self.keys().cmp(&other.keys()),
+        match self.rank.cmp(&other.rank) {
+            Ordering::Equal => self.cmp_keys(other),
+            unlike => unlike,
         }
     }
 }
@@ -156,6 +161,16 @@ impl Tuple {
         }
     }
 
+    /// The order of it and another one by their keys alone.
+    fn cmp_keys(&self, other: &Tuple) -> Ordering
+        ensures { result ≡ tuple_cmp self.now other.now }
+    {
+        match (&self.keys, &other.keys) {
+            (TupleKeys::One(key), TupleKeys::One(other)) => key.cmp(other),
+            _ => self.keys().cmp(&other.keys()),
+        }
+    }
+
     /// How many values it has.
     pub fn len(&self) -> usize
         ensures { result ≡ length self.now }
@@ -168,6 +183,7 @@ impl Tuple {
         ensures { result ≡ key ∷ [] }
     {
         Tuple {
+            rank: key_rank(&key),
             keys: TupleKeys::One(key),
         }
     }
@@ -176,6 +192,7 @@ impl Tuple {
         ensures { result ≡ keys.items }
     {
         Tuple {
+            rank: first_rank(keys.as_slice()),
             keys: TupleKeys::Many(keys),
         }
     }
@@ -215,6 +232,16 @@ impl Tuple {
             Some(key) => Ok(key.value(alloc)?),
             None => Ok(no_value()),
         }
+    }
+}
+
+/// The rank of the first key; 0 where there is none.
+fn first_rank(keys: &[Key]) -> u64
+    ensures { IsTupleRank keys.now result }
+{
+    match keys.first() {
+        Some(key) => key_rank(key),
+        None => 0,
     }
 }
 

@@ -10,7 +10,6 @@ mod inline_kind;
 mod laws;
 mod ordered;
 mod parts;
-mod ranks;
 mod sort_key;
 mod sort_key_list;
 #[cfg(test)]

@@ -7,8 +7,8 @@ ghost use Rattle.top_rows.specs.SortKeys.{sort_keys_of};
 ghost use Rattle.top_rows.specs.declared.sort_key.SortKey.{SortKey as SortKeys};
 
 use crate::inline_kind::InlineKind;
-use crate::ranks::{KEY_RANKS, key_rank};
 use crate::sort_key::SortKey;
+use key_ranks::{KEY_RANKS, key_rank};
 use std::alloc::{AllocError, Global};
 use std::cmp::{Ordering, Reverse};
 use std::marker::Model;

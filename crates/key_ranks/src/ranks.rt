@@ -1,9 +1,9 @@
-//! Ranks of sort keys: numbers by which most of them are told apart without a look at their keys.
+//! The rank of a key.
 
 ghost use Rattle.std.specs.Prelude.{◌≡◌, ◌<◌, ◌≤◌, ◌+◌, ◌*◌, ◌-◌, length};
 ghost use Rattle.values.specs.Keys.{datum_of_key};
 ghost use Rattle.values.specs.SmallBytes.{spelled};
-ghost use Rattle.top_rows.specs.Ranks.{
+ghost use Rattle.key_ranks.specs.Ranks.{
   IsCellRank,
   IsNumberRank,
   IsTextRank,
@@ -16,7 +16,7 @@ use values::{CellView, Key};
 
 /// How many ranks keys have. Numbers have those of the first half, texts those of the second. Truth values share the
 /// first rank, and bytes and nulls the last.
-pub(crate) const KEY_RANKS: u64 = 1 << 62;
+pub const KEY_RANKS: u64 = 1 << 62;
 
 const HALF: u64 = 1 << 61;
 
@@ -65,8 +65,8 @@ fn text_rank(bytes: &[u8]) -> u64
     HALF + first_word(bytes) / 8
 }
 
-/// The rank of a key.
-pub(crate) fn key_rank(key: &Key) -> u64
+/// The rank of a key: keys of different ranks are ordered by these.
+pub fn key_rank(key: &Key) -> u64
     ensures rank { IsCellRank (datum_of_key key.now) result }
     ensures small { result < key_ranks }
 {
