@@ -18,14 +18,10 @@ lower-first (x ∷ xs) (y ∷ ys) r s p q l = ap (λ o. ordering_then o (tuple_c
 
 pub tuples-ranked : (xs ys : List Key) (r s : ℕ) (o : Ordering) → IsTupleRank xs r → IsTupleRank ys s
     → o ≡ nat_cmp r s → (o ≡ Equal → ⊥) → o ≡ tuple_cmp xs ys
-tuples-ranked xs ys r s o p q is unlike = by o (is ∙ refl) unlike
+tuples-ranked xs ys r s o p q is unlike = by (nat_cmp r s) (ranks r s) is
   where
-    by : (w : Ordering) → w ≡ nat_cmp r s → (w ≡ Equal → ⊥) → w ≡ tuple_cmp xs ys
-    by w e u = each (nat_cmp r s) (ranks r s) w e u
-
-    each : (v : Ordering) → MatchOrdering v (r < s) (r ≡ s) (s < r) → (w : Ordering) → w ≡ v → (w ≡ Equal → ⊥)
-        → w ≡ tuple_cmp xs ys
-    each Less l w e u = e ∙ sym (lower-first xs ys r s p q l)
-    each Equal l w e u = absurd (u e)
-    each Greater l w e u =
+    by : (v : Ordering) → MatchOrdering v (r < s) (r ≡ s) (s < r) → o ≡ v → o ≡ tuple_cmp xs ys
+    by Less l e = e ∙ sym (lower-first xs ys r s p q l)
+    by Equal l e = absurd (unlike e)
+    by Greater l e =
         e ∙ sym (tuple_total.antisymm xs ys ∙ ap ordering_reverse (lower-first ys xs s r q p l))

@@ -40,10 +40,10 @@ enum Output<F> {
     Standard,
 }
 
-/// A file that is read.
+/// A file that is read. A file has its buffer in itself, and a box is moved without it.
 #[derive(Drop)]
 pub enum Source<F, I> {
-    File(F),
+    File(Box<F>),
     /// Standard input.
     Standard(I),
 }
@@ -152,7 +152,7 @@ impl<'a, R: std::rt::Files + Input + Print + Eprint + Clock + AllocGlobal> Files
             Ok(file) => {
                 let progress = self.progress(len_of(&file));
                 Ok(Tracked {
-                    source: Source::File(file),
+                    source: Source::File(Box::new(self.runtime.alloc(), file)?),
                     progress,
                 })
             }
