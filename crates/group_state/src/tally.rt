@@ -16,7 +16,7 @@ use crate::accumulated_columns::AccumulatorForm;
 use crate::cells::{count, no_value, whole};
 use crate::multiset::Multiset;
 use crate::parts::TallyParts;
-use crate::row_cells::{is_null_at, key_at};
+use crate::row_cells::filled_key_at;
 use crate::total::Total;
 use std::alloc::{AllocError, Global};
 use values::{CellView, Key, Value};
@@ -275,10 +275,7 @@ fn add_value<R: RowView>(
     ensures { OnOk result ((cells : List Datum) → KeepsValues values.old cells
         → KeepsValues values.new (cell column (R.cells row.now) ∷ cells)) }
 {
-    if is_null_at(row, column) {
-        return Ok(());
-    }
-    if let Some(key) = key_at(alloc, row, column)? {
+    if let Some(key) = filled_key_at(alloc, row, column)? {
         values.add(alloc, key)?;
         let _size = values.count_distinct();
     }
@@ -295,10 +292,7 @@ fn remove_value<R: RowView>(
     ensures { OnOk result ((cells : List Datum) → KeepsValues values.old (cell column (R.cells row.now) ∷ cells)
         → KeepsValues values.new cells) }
 {
-    if is_null_at(row, column) {
-        return Ok(());
-    }
-    if let Some(key) = key_at(alloc, row, column)? {
+    if let Some(key) = filled_key_at(alloc, row, column)? {
         values.remove(&key);
         let _size = values.count_distinct();
     }

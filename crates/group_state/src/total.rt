@@ -8,7 +8,7 @@ ghost use Rattle.values.specs.Datum.{Datum};
 ghost use Rattle.group_state.specs.Cells.{KeepsTotal};
 ghost use Rattle.group_state.specs.Rows.{cell};
 
-use crate::row_cells::{is_null_at, number_at};
+use crate::row_cells::number_at;
 use view_lang::RowView;
 
 /// Of the cells of a column: how many aren't null, and the sum of those that are whole numbers. The sum wraps around
@@ -26,10 +26,9 @@ impl Total {
         ensures { (cells : List Datum) → KeepsTotal self.old cells
             → KeepsTotal self.new (cell column (R.cells row.now) ∷ cells) }
     {
-        if is_null_at(row, column) {
+        let Some(number) = number_at(row, column) else {
             return;
-        }
-        let number = number_at(row, column);
+        };
         raise(&mut self.total, &number);
         self.filled += 1;
     }
@@ -39,10 +38,9 @@ impl Total {
         ensures { (cells : List Datum) → KeepsTotal self.old (cell column (R.cells row.now) ∷ cells)
             → KeepsTotal self.new cells }
     {
-        if is_null_at(row, column) {
+        let Some(number) = number_at(row, column) else {
             return;
-        }
-        let number = number_at(row, column);
+        };
         lower(&mut self.total, &number);
         self.filled = self.filled.saturating_sub(1);
     }

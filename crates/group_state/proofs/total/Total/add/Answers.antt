@@ -1,4 +1,4 @@
-use Rattle.std.proofs.Common.{◌+◌, refl, rules, sym, ◌∙◌}
+use Rattle.std.proofs.Common.{◌+◌, refl, rules}
 use Rattle.std.proofs.lemmas.Int.{to_z-of_z}
 use mir.Syntax.{w128}
 use mir.Val.{SFits}
@@ -8,8 +8,8 @@ use Rattle.group_state.proofs.total.Total.add.Goals as goal
 
 pub returns : goal.returns
 returns g c = λ cells k.
-    let f : SFits w128 c.number_at-number.result = search rules in
+    let f : SFits w128 c.in-Some.number = search rules in
     total-put c.args.self.now (cell c.args.column (g.R.RowView.cells c.args.row.now)) cells
     (record { filled = c.args.self.now.filled + 1; total = c.raise.new.total })
-    (sym c.is_null_at.ensures ∙ c.if-is_null_at.false) refl
-    (rw (c.raise.ensures, to_z-of_z w128 c.number_at-number.result f, c.number_at-number.ensures) refl) k
+    c.in-Some.ensures.0 refl
+    (rw (c.raise.ensures, to_z-of_z w128 c.in-Some.number f, c.in-Some.ensures.1) refl) k
