@@ -14,6 +14,7 @@ ghost use Rattle.values.specs.declared.key.Key.{Key};
 
 use crate::many_values::ManyValues;
 use crate::parts::{MultisetParts, ValueCount};
+use key_ranks::RankedKey;
 use std::alloc::{AllocError, Global};
 use std::cmp::Ordering;
 use std::marker::Model;
@@ -22,7 +23,7 @@ use values::Key;
 /// Values with how often each is there, in ascending order.
 #[derive(Debug, Drop)]
 pub(crate) struct FewValues {
-    counts: Vec<(Key, u64)>,
+    counts: Vec<(RankedKey, u64)>,
 }
 
 impl Model for FewValues {
@@ -58,7 +59,10 @@ impl FewValues {
         let FewValues { counts } = self;
         let mut taken = Vec::with_capacity(alloc, counts.len())?;
         for (value, count) in counts {
-            taken.push(ValueCount { value, count })?;
+            taken.push(ValueCount {
+                value: value.into_key(),
+                count,
+            })?;
         }
         Ok(MultisetParts { counts: taken })
     }
@@ -70,7 +74,7 @@ impl FewValues {
         let MultisetParts { counts } = parts;
         let mut made = Vec::with_capacity(alloc, counts.len())?;
         for ValueCount { value, count } in counts {
-            made.push((value, count))?;
+            made.push((RankedKey::new(value), count))?;
         }
         Ok(FewValues { counts: made })
     }
@@ -101,7 +105,7 @@ impl FewValues {
         ensures { option_map (λ k. k.now) result ≡ first_of self.now }
     {
         match self.counts.first() {
-            Some((key, _count)) => Some(key),
+            Some((key, _count)) => Some(key.key()),
             None => None,
         }
     }
@@ -111,13 +115,13 @@ impl FewValues {
         ensures { option_map (λ k. k.now) result ≡ last_of self.now }
     {
         match self.counts.last() {
-            Some((key, _count)) => Some(key),
+            Some((key, _count)) => Some(key.key()),
             None => None,
         }
     }
 
     /// The index of a value; or, as an error, the index at which it would be inserted.
-    fn place(&self, key: &Key) -> Result<usize, usize>
+    fn place(&self, key: &RankedKey) -> Result<usize, usize>
         ensures { MatchResult result (λ n. IsThere key.now n self.now) (λ n. IsBefore key.now n self.now) }
     {
         for place in 0..self.counts.len() {
@@ -131,7 +135,7 @@ impl FewValues {
     }
 
     /// The value at an index.
-    pub(crate) fn key(&self, place: usize) -> &Key
+    pub(crate) fn key(&self, place: usize) -> &RankedKey
         requires { place < length self.now }
         ensures { (e : Key × ℕ) → result.now ≡ (slice_index_or self.now place e).0 }
     {
@@ -156,7 +160,7 @@ impl FewValues {
     }
 
     /// Inserts a value at its index, where it isn't yet. If memory is refused, nothing has changed.
-    fn insert(&mut self, place: usize, key: Key, times: u64) -> Result<(), AllocError>
+    fn insert(&mut self, place: usize, key: RankedKey, times: u64) -> Result<(), AllocError>
         requires some { 0 < times }
         requires before { IsBefore key place self.old }
         ensures ok { OnOk result (self.new ≡ put_times key times self.old) }
@@ -181,7 +185,7 @@ impl FewValues {
     }
 
     /// Adds a value `times` times. If memory is refused, nothing has changed.
-    pub(crate) fn add(&mut self, key: Key, times: u64) -> Result<(), AllocError>
+    pub(crate) fn add(&mut self, key: RankedKey, times: u64) -> Result<(), AllocError>
         requires some { 0 < times }
         requires few { had self.old key + times < 2 ^ 64 }
         ensures ok { OnOk result (self.new ≡ put_times key times self.old) }
@@ -198,7 +202,7 @@ impl FewValues {
     }
 
     /// Removes a value `times` times, or as often as it is there.
-    pub(crate) fn remove(&mut self, key: &Key, times: u64)
+    pub(crate) fn remove(&mut self, key: &RankedKey, times: u64)
         ensures { self.new ≡ take_times key.now times self.old }
     {
         let _size = self.len();

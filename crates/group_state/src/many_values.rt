@@ -24,6 +24,7 @@ ghost use Rattle.std.specs.List.{All};
 ghost use Rattle.group_state.specs.Counts.{put_times, take_times, had, keeps_none};
 
 use crate::parts::{MultisetParts, ValueCount};
+use key_ranks::RankedKey;
 use std::alloc::{AllocError, Global};
 use std::collections::BTreeMap;
 use std::collections::btree_map::Iter;
@@ -33,7 +34,7 @@ use values::Key;
 /// Values with how often each is there, in ascending order. Contracts see the entries; none has the count 0.
 #[derive(Debug, Drop)]
 pub(crate) struct ManyValues {
-    counts: BTreeMap<Key, u64>,
+    counts: BTreeMap<RankedKey, u64>,
 }
 
 impl Model for ManyValues {
@@ -68,7 +69,10 @@ impl ManyValues {
         let ManyValues { counts } = self;
         let mut taken = Vec::with_capacity(alloc, counts.len())?;
         for (value, count) in counts {
-            taken.push(ValueCount { value, count })?;
+            taken.push(ValueCount {
+                value: value.into_key(),
+                count,
+            })?;
         }
         Ok(MultisetParts { counts: taken })
     }
@@ -80,7 +84,7 @@ impl ManyValues {
         let MultisetParts { counts } = parts;
         let mut made = BTreeMap::new(alloc);
         for ValueCount { value, count } in counts {
-            made.insert(value, count)?;
+            made.insert(RankedKey::new(value), count)?;
         }
         Ok(ManyValues { counts: made })
     }
@@ -102,7 +106,7 @@ impl ManyValues {
     {
         let _size = self.counts.len();
         match self.counts.first_key_value() {
-            Some((key, _count)) => Some(key),
+            Some((key, _count)) => Some(key.key()),
             None => None,
         }
     }
@@ -115,13 +119,13 @@ impl ManyValues {
     {
         let _size = self.counts.len();
         match self.counts.last_key_value() {
-            Some((key, _count)) => Some(key),
+            Some((key, _count)) => Some(key.key()),
             None => None,
         }
     }
 
     /// Inserts a value that isn't there, with this count. If memory is refused, nothing has changed.
-    pub(crate) fn put(&mut self, key: Key, count: u64) -> Result<(), AllocError>
+    pub(crate) fn put(&mut self, key: RankedKey, count: u64) -> Result<(), AllocError>
         requires { 0 < count }
         ensures ok { OnOk result (self.new ≡ insert_entry key_cmp self.old key count) }
         ensures err { OnErr result (self.new ≡ self.old) }
@@ -131,14 +135,14 @@ impl ManyValues {
     }
 
     /// The values with their counts, in order.
-    pub(crate) fn iter(&self) -> Iter<'_, Key, u64>
+    pub(crate) fn iter(&self) -> Iter<'_, RankedKey, u64>
         ensures { result ≡ self.now }
     {
         self.counts.iter()
     }
 
     /// Adds a value `times` times. If memory is refused, nothing has changed.
-    pub(crate) fn add(&mut self, key: Key, times: u64) -> Result<(), AllocError>
+    pub(crate) fn add(&mut self, key: RankedKey, times: u64) -> Result<(), AllocError>
         requires some { 0 < times }
         requires few { had self.old key + times < 2 ^ 64 }
         ensures ok { OnOk result (self.new ≡ put_times key times self.old) }
@@ -149,7 +153,7 @@ impl ManyValues {
     }
 
     /// Removes a value `times` times, or as often as it is there.
-    pub(crate) fn remove(&mut self, key: &Key, times: u64)
+    pub(crate) fn remove(&mut self, key: &RankedKey, times: u64)
         ensures { self.new ≡ take_times key.now times self.old }
     {
         take_from(&mut self.counts, key, times);
@@ -157,7 +161,7 @@ impl ManyValues {
 }
 
 /// Lowers a value's count, and removes the value where it becomes 0.
-fn take_from(counts: &mut BTreeMap<Key, u64>, key: &Key, times: u64)
+fn take_from(counts: &mut BTreeMap<RankedKey, u64>, key: &RankedKey, times: u64)
     ensures entries { counts.new.entries ≡ take_times key.now times counts.old.entries }
     ensures ordered { IsStrictlySortedBy key_cmp (keys_of counts.old.entries) }
 {

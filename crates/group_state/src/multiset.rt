@@ -17,6 +17,7 @@ use crate::few_values::FewValues;
 use crate::many_values::ManyValues;
 use crate::one_value::OneValue;
 use crate::parts::MultisetParts;
+use key_ranks::RankedKey;
 use std::alloc::{AllocError, Global};
 use std::marker::Model;
 use values::Key;
@@ -49,7 +50,7 @@ impl Model for Multiset {
 }
 
 /// The values in a wider form, where this value can't be added in theirs.
-fn widened(counts: &Counts, alloc: Global, key: &Key) -> Result<Option<Counts>, AllocError>
+fn widened(counts: &Counts, alloc: Global, key: &RankedKey) -> Result<Option<Counts>, AllocError>
     ensures same { IfOk result (λ found. IfSome found (λ wider. counted_in wider ≡ counted_in counts.now)) }
     ensures room { IfOk result (λ found. MatchOption found (HasRoom key.now counts.now) (HasRoom key.now)) }
 {
@@ -72,7 +73,7 @@ fn widened(counts: &Counts, alloc: Global, key: &Key) -> Result<Option<Counts>, 
 
 /// Moves the values into a wider form, where this value can't be added in theirs. If memory is refused, nothing has
 /// changed.
-fn make_room(counts: &mut Counts, alloc: Global, key: &Key) -> Result<(), AllocError>
+fn make_room(counts: &mut Counts, alloc: Global, key: &RankedKey) -> Result<(), AllocError>
     ensures same { counted_in counts.new ≡ counted_in counts.old }
     ensures room { OnOk result (HasRoom key.now counts.new) }
 {
@@ -83,7 +84,7 @@ fn make_room(counts: &mut Counts, alloc: Global, key: &Key) -> Result<(), AllocE
 }
 
 /// Adds a value `times` times. If memory is refused, nothing has changed.
-fn put(counts: &mut Counts, key: Key, times: u64) -> Result<(), AllocError>
+fn put(counts: &mut Counts, key: RankedKey, times: u64) -> Result<(), AllocError>
     requires some { 0 < times }
     requires room { HasRoom key counts.old }
     requires few { had (counted_in counts.old) key + times < 2 ^ 64 }
@@ -101,7 +102,7 @@ fn put(counts: &mut Counts, key: Key, times: u64) -> Result<(), AllocError>
 }
 
 /// Removes a value `times` times, or as often as it is there.
-fn take(counts: &mut Counts, key: &Key, times: u64)
+fn take(counts: &mut Counts, key: &RankedKey, times: u64)
     ensures { counted_in counts.new ≡ take_times key.now times (counted_in counts.old) }
 {
     match counts {
@@ -186,7 +187,7 @@ impl Multiset {
     }
 
     /// Adds a value. If memory is refused, nothing has changed.
-    pub fn add(&mut self, alloc: Global, key: Key) -> Result<(), AllocError>
+    pub fn add(&mut self, alloc: Global, key: RankedKey) -> Result<(), AllocError>
         requires { had self.old key < 2 ^ 63 }
         ensures ok { OnOk result (self.new ≡ put_one key self.old) }
         ensures counts { OnOk result ((q : Key) → had self.new q ≡ had self.old q + one key q) }
@@ -198,7 +199,7 @@ impl Multiset {
     }
 
     /// Removes one such value, if there is one.
-    pub fn remove(&mut self, key: &Key)
+    pub fn remove(&mut self, key: &RankedKey)
         ensures entries { self.new ≡ take_one key.now self.old }
         ensures counts { (q : Key) → had self.new q ≡ had self.old q - one key.now q }
     {
@@ -207,7 +208,7 @@ impl Multiset {
     }
 
     /// Adds a value `times` times.
-    fn add_times(&mut self, alloc: Global, key: &Key, times: u64) -> Result<(), AllocError>
+    fn add_times(&mut self, alloc: Global, key: &RankedKey, times: u64) -> Result<(), AllocError>
         requires some { 0 < times }
         requires few { had self.old key.now + times < 2 ^ 64 }
         ensures { OnOk result ((q : Key) → had self.new q
@@ -219,7 +220,7 @@ impl Multiset {
     }
 
     /// Removes a value `times` times, or as often as it is there.
-    fn remove_times(&mut self, key: &Key, times: u64)
+    fn remove_times(&mut self, key: &RankedKey, times: u64)
         ensures { (q : Key) → had self.new q ≡ had self.old q - cond (is_at (key_cmp key.now) q) times 0 }
     {
         let _size = self.count_distinct();

@@ -13,6 +13,7 @@ ghost use Rattle.std.specs.Prelude.{◌≡◌, [], ◌∷◌, ◌<◌, ◌≤◌
 
 use crate::few_values::FewValues;
 use crate::parts::{MultisetParts, ValueCount};
+use key_ranks::RankedKey;
 use std::alloc::{AllocError, Global};
 use std::cmp::Ordering;
 use std::marker::Model;
@@ -22,7 +23,7 @@ use values::Key;
 /// entries: one, or none.
 #[derive(Debug, Drop)]
 pub(crate) struct OneValue {
-    key: Key,
+    key: RankedKey,
     count: u64,
 }
 
@@ -42,13 +43,13 @@ impl OneValue {
         ensures { result ≡ keeps_none }
     {
         OneValue {
-            key: Key::Null,
+            key: RankedKey::new(Key::Null),
             count: 0,
         }
     }
 
     /// The value with how often it is there, if there is one.
-    pub(crate) fn entry(&self) -> Option<(&Key, u64)>
+    pub(crate) fn entry(&self) -> Option<(&RankedKey, u64)>
         ensures entry { MatchOption result (self.now ≡ []) (λ e. self.now ≡ (e.0.now, e.1) ∷ []) }
         ensures ordered { IsStrictlySortedBy key_cmp (keys_of self.now) }
         ensures present { All (λ n. 0 < n) (values_of self.now) }
@@ -78,7 +79,7 @@ impl OneValue {
         ensures greatest { option_map (λ k. k.now) result ≡ last_of self.now }
     {
         match self.entry() {
-            Some((key, _count)) => Some(key),
+            Some((key, _count)) => Some(key.key()),
             None => None,
         }
     }
@@ -91,7 +92,10 @@ impl OneValue {
         let _size = self.len();
         let OneValue { key, count } = self;
         if count > 0 {
-            counts.push(ValueCount { value: key, count })?;
+            counts.push(ValueCount {
+                value: key.into_key(),
+                count,
+            })?;
         }
         Ok(MultisetParts { counts })
     }
@@ -108,7 +112,7 @@ impl OneValue {
     }
 
     /// Whether this value can be added: there is no other.
-    pub(crate) fn can_take(&self, key: &Key) -> bool
+    pub(crate) fn can_take(&self, key: &RankedKey) -> bool
         ensures { result ≡ true → CanTake key.now self.now }
     {
         match key.cmp(&self.key) {
@@ -118,7 +122,7 @@ impl OneValue {
     }
 
     /// Adds a value `times` times. There is no other.
-    pub(crate) fn add(&mut self, key: Key, times: u64)
+    pub(crate) fn add(&mut self, key: RankedKey, times: u64)
         requires some { 0 < times }
         requires alone { CanTake key self.old }
         requires few { had self.old key + times < 2 ^ 64 }
@@ -133,7 +137,7 @@ impl OneValue {
     }
 
     /// Removes a value `times` times, or as often as it is there.
-    pub(crate) fn remove(&mut self, key: &Key, times: u64)
+    pub(crate) fn remove(&mut self, key: &RankedKey, times: u64)
         ensures { self.new ≡ take_times key.now times self.old }
     {
         match key.cmp(&self.key) {

@@ -9,6 +9,7 @@ ghost use Rattle.values.specs.declared.key.Key.{Key as Keys};
 ghost use Rattle.group_state.specs.Cells.{is_value};
 ghost use Rattle.group_state.specs.Rows.{cell};
 
+use key_ranks::RankedKey;
 use std::alloc::{AllocError, Global};
 use values::{CellView, Key};
 use view_lang::RowView;
@@ -54,7 +55,7 @@ pub(crate) fn filled_key_at<R: RowView>(
     alloc: Global,
     row: &R,
     column: usize,
-) -> Result<Option<Key>, AllocError>
+) -> Result<Option<RankedKey>, AllocError>
     ensures { IfOk result (λ found. MatchOption found
         ((q : Keys) → is_value q (cell column (R.cells row.now)) ≡ false)
         (λ key. (is_null_by (cell column (R.cells row.now)) ≡ false)
@@ -64,5 +65,8 @@ pub(crate) fn filled_key_at<R: RowView>(
     if cell.is_null() {
         return Ok(None);
     }
-    Key::of_cell(alloc, cell)
+    match Key::of_cell(alloc, cell)? {
+        Some(key) => Ok(Some(RankedKey::new(key))),
+        None => Ok(None),
+    }
 }

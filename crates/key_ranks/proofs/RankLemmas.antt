@@ -2,9 +2,9 @@
 use Rattle.std.proofs.Common.{◌≡◌, inl, inr, ℕ, ℤ, ◌-◌, ◌<◌, ◌≤◌, ◌<ℤ◌, refl, ap, ap₂, sym, ◌∙◌, arith}
 use Rattle.std.proofs.lemmas.Int.{ints}
 use Rattle.std.proofs.lemmas.List.{drop_at, length-append, length-replicate, length-take, take_at}
-use Rattle.std.specs.Cmp.{int_cmp_is, nat_cmp_is}
+use Rattle.std.specs.Cmp.{int_cmp_is, nat_cmp_is, ranks}
 use Rattle.std.specs.Cmp.Lexicographic.{slice_cmp}
-use Rattle.std.specs.Ordering.{nat_cmp, ordering_then}
+use Rattle.std.specs.Ordering.{MatchOrdering, nat_cmp, ordering_reverse, ordering_then}
 use Rattle.std.specs.Prelude.{List, [], ◌∷◌, ◌++◌, drop, length, replicate, suc, take, zero}
 use Rattle.std.specs.declared.cmp.Ordering.{Ordering}
 use Rattle.std.specs.declared.cmp.Ordering.TheVariants.{Equal, Greater, Less}
@@ -13,7 +13,8 @@ use Rattle.values.specs.Keys.{datum_of_key}
 use Rattle.values.specs.Order.{datum_cmp}
 use Rattle.values.proofs.KeyLaws.{keys-ordered}
 use Rattle.values.proofs.WordLemmas.{AreBytes, spelled-cmp, padded}
-use Rattle.key_ranks.specs.RankOrder.{RanksAreOrdered}
+use Rattle.values.specs.declared.key.Key.{Key}
+use Rattle.key_ranks.specs.RankOrder.{RanksAreOrdered, key_cmp, key_total}
 use Rattle.key_ranks.specs.Ranks.{IsCellRank, IsNumberRank, IsTextRank, first_word, half_ranks, key_ranks}
 
 numbers-ranked : (n m : ℤ) (r s : ℕ) → IsNumberRank n r → IsNumberRank m s → r < s → n <ℤ m
@@ -118,3 +119,13 @@ cells-ranked a b r s p q l = absurd (omega (arith, p, l, cell-below b s q))
 
 pub keys_ranked : RanksAreOrdered
 keys_ranked x y r s p q l = keys-ordered x y ∙ cells-ranked (datum_of_key x) (datum_of_key y) r s p q l
+
+-- keys of different ranks are ordered as these
+pub unlike_ranked : (x y : Key) (r s : ℕ) (o : Ordering) → IsCellRank (datum_of_key x) r → IsCellRank (datum_of_key y) s
+    → o ≡ nat_cmp r s → (o ≡ Equal → ⊥) → o ≡ key_cmp x y
+unlike_ranked x y r s o p q is unlike = by (nat_cmp r s) (ranks r s) is
+  where
+    by : (v : Ordering) → MatchOrdering v (r < s) (r ≡ s) (s < r) → o ≡ v → o ≡ key_cmp x y
+    by Less l e = e ∙ sym (keys_ranked x y r s p q l)
+    by Equal l e = absurd (unlike e)
+    by Greater l e = e ∙ sym (key_total.antisymm x y ∙ ap ordering_reverse (keys_ranked y x s r q p l))

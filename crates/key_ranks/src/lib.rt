@@ -5,9 +5,11 @@
 #![tactic(auto)]
 
 mod laws;
+mod ranked_key;
 mod ranks;
 #[cfg(test)]
 mod tests;
 
 pub use laws::rank_law;
+pub use ranked_key::RankedKey;
 pub use ranks::{KEY_RANKS, key_rank};

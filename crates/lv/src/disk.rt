@@ -71,10 +71,19 @@ impl<'a, R: std::rt::Files> Disk<'a, R> {
 }
 
 impl<'a, R: std::rt::Files + Clock + Eprint> Disk<'a, R> {
-    /// The progress of reading a file of this many bytes, where it is reported to a terminal.
-    fn progress(&self, total: Option<u64>) -> Option<Progress<'a, R>> {
+    /// The progress of reading bytes of which the number isn't known, where it is reported to a terminal.
+    fn progress(&self) -> Option<Progress<'a, R>> {
         if self.is_reported {
-            Progress::begin(self.runtime, total)
+            Progress::begin(self.runtime, None)
+        } else {
+            None
+        }
+    }
+
+    /// The progress of reading a file, where it is reported to a terminal.
+    fn progress_of(&self, file: &R::File) -> Option<Progress<'a, R>> {
+        if self.is_reported {
+            Progress::begin(self.runtime, len_of(file))
         } else {
             None
         }
@@ -145,12 +154,12 @@ impl<'a, R: std::rt::Files + Input + Print + Eprint + Clock + AllocGlobal> Files
         if path == STANDARD {
             return Ok(Tracked {
                 source: Source::Standard(self.runtime.reader()),
-                progress: self.progress(None),
+                progress: self.progress(),
             });
         }
         match fs::open(self.runtime, path) {
             Ok(file) => {
-                let progress = self.progress(len_of(&file));
+                let progress = self.progress_of(&file);
                 Ok(Tracked {
                     source: Source::File(Box::new(self.runtime.alloc(), file)?),
                     progress,
