@@ -100,12 +100,16 @@ impl GroupEntry {
         }
     }
 
-    pub(crate) fn from_parts(alloc: Global, parts: GroupEntryParts) -> GroupEntry
-        ensures { result ≡ entry_with parts }
+    pub(crate) fn from_parts(
+        alloc: Global,
+        parts: GroupEntryParts,
+    ) -> Result<GroupEntry, AllocError>
+        ensures { IfOk result (λ entry. entry ≡ entry_with parts) }
     {
         let GroupEntryParts { sort_keys, tuple } = parts;
         let sort_keys = SortKeyList::from_list(alloc, sort_keys);
-        GroupEntry::new(sort_keys, Tuple::of_keys(tuple))
+        let tuple = Tuple::from_keys(alloc, tuple)?;
+        Ok(GroupEntry::new(sort_keys, tuple))
     }
 
     pub(crate) fn into_parts(self, alloc: Global) -> Result<GroupEntryParts, AllocError>

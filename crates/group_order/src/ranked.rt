@@ -141,7 +141,7 @@ impl RankedGroups {
         let groups = Groups::from_parts(alloc, groups)?;
         let mut placed = BTreeSet::new(alloc);
         for entry in entries {
-            placed.insert(GroupEntry::from_parts(alloc, entry))?;
+            placed.insert(GroupEntry::from_parts(alloc, entry)?)?;
         }
         Ok(RankedGroups {
             alloc,

@@ -26,5 +26,4 @@ pub mod SampleFits
 pub mod Taken
 pub mod Totals
 pub mod Touched
-pub mod TupleRanks
 pub mod Under

@@ -1,8 +1,6 @@
--- What contracts see of a tuple, and its rank.
-use Rattle.std.specs.Prelude.{◌≡◌, ℕ, List, [], ◌∷◌}
+-- What contracts see of a tuple.
+use Rattle.std.specs.Prelude.{List, [], ◌∷◌}
 use Rattle.values.specs.declared.key.Key.{Key}
-use Rattle.values.specs.Keys.{datum_of_key}
-use Rattle.key_ranks.specs.Ranks.{IsCellRank}
 use Rattle.group_state.specs.declared.tuple.TupleKeys.{TupleKeys}
 use Rattle.group_state.specs.declared.tuple.TupleKeys.TheVariants.{One, Many}
 
@@ -10,8 +8,3 @@ use Rattle.group_state.specs.declared.tuple.TupleKeys.TheVariants.{One, Many}
 abbrev pub keys_in : TupleKeys → List Key
 keys_in (One k) = k ∷ []
 keys_in (Many ks) = ks.items
-
--- the rank of a tuple is that of its first key
-abbrev pub IsTupleRank : List Key → ℕ → Type 0
-IsTupleRank [] r = r ≡ 0
-IsTupleRank (k ∷ ks) r = IsCellRank (datum_of_key k) r

@@ -73,7 +73,7 @@ impl Group {
             rows,
             tallies,
         } = parts;
-        let tuple = Tuple::of_keys(tuple);
+        let tuple = Tuple::from_keys(alloc, tuple)?;
         let mut made = Vec::with_capacity(alloc, tallies.len())?;
         for tally in tallies {
             made.push(Tally::from_parts(alloc, tally)?)?;

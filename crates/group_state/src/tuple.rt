@@ -4,14 +4,13 @@ ghost use Rattle.std.specs.Prelude.{◌≡◌, ◌∷◌, All, IfOk, [], length}
 ghost use Rattle.values.specs.CellViews.{shallow, viewed};
 ghost use Rattle.view_lang.specs.Cells.{cell_at};
 ghost use Rattle.group_state.specs.Moves.{begins_with};
-ghost use Rattle.group_state.specs.Keys.{data_of, key_in, tuple_cmp};
+ghost use Rattle.group_state.specs.Keys.{data_of, key_in};
 ghost use Rattle.group_state.specs.Rows.{cell};
-ghost use Rattle.group_state.specs.TupleKeys.{IsTupleRank};
 ghost use Rattle.group_state.specs.Tuples.{tuple_of};
 
 use crate::cells::no_value;
 use crate::row_cells::key_at;
-use key_ranks::key_rank;
+use key_ranks::RankedKey;
 use std::alloc::{AllocError, Global};
 use std::cmp::Ordering;
 use std::marker::Model;
@@ -22,28 +21,25 @@ use view_lang::RowView;
 /// One key inline, or any number of them in one allocation.
 #[derive(Debug, Drop)]
 enum TupleKeys {
-    One(Key),
-    Many(Vec<Key>),
+    One(RankedKey),
+    Many(Vec<RankedKey>),
 }
 
 /// A grouping tuple: the keys of a row's cells in the grouping columns, in order. That of one column takes no memory
-/// but what its key takes. Contracts see the list of keys. Most tuples are told apart by the rank of their first key.
+/// but what its key takes. Contracts see the list of keys.
 #[derive(Debug, Drop)]
 pub struct Tuple {
-    rank: u64,
     keys: TupleKeys,
 }
 
 impl Model for Tuple {
-    ghost use Rattle.group_state.specs.TupleKeys.{IsTupleRank, keys_in};
+    ghost use Rattle.group_state.specs.TupleKeys.{keys_in};
     ghost use Rattle.std.specs.Prelude.{List};
     ghost use Rattle.values.specs.declared.key.Key.{Key};
 
     ghost Value = { List Key };
 
     ghost view = { λ t. keys_in t.keys };
-
-    ghost invariant = { λ t. IsTupleRank (keys_in t.keys) t.rank };
 }
 
 impl PartialEq for Tuple {
@@ -94,9 +90,9 @@ impl Ord for Tuple {
     ghost matches_eq = { λ x y. refl };
 
     fn cmp(&self, other: &Tuple) -> Ordering {
-        match self.rank.cmp(&other.rank) {
-            Ordering::Equal => self.cmp_keys(other),
-            unlike => unlike,
+        match (&self.keys, &other.keys) {
+            (TupleKeys::One(key), TupleKeys::One(other)) => key.cmp(other),
+            _ => self.keys().cmp(&other.keys()),
         }
     }
 }
@@ -114,7 +110,8 @@ impl Tuple {
             return Ok(Tuple::none(alloc));
         };
         if others.is_empty() {
-            return Ok(Tuple::one(key_or_null(alloc, row, *first)?));
+            let key = key_or_null(alloc, row, *first)?;
+            return Ok(Tuple::one(RankedKey::new(key)));
         }
         let keys = each_key(alloc, columns, row)?;
         Ok(Tuple::many(keys))
@@ -125,20 +122,20 @@ impl Tuple {
         ensures { IfOk result (λ keys. keys.items ≡ self) }
     {
         match self.keys {
-            TupleKeys::One(key) => Ok(Vec::from_array(alloc, [key])?),
-            TupleKeys::Many(keys) => Ok(keys),
+            TupleKeys::One(key) => Ok(Vec::from_array(alloc, [key.into_key()])?),
+            TupleKeys::Many(keys) => Ok(keys_of(alloc, keys)?),
         }
     }
 
-    /// The tuple of these keys. Their list's memory is freed where there is one key.
-    pub fn of_keys(keys: Vec<Key>) -> Tuple
-        ensures { result ≡ keys.items }
+    /// The tuple of these keys.
+    pub fn from_keys(alloc: Global, keys: Vec<Key>) -> Result<Tuple, AllocError>
+        ensures { IfOk result (λ t. t ≡ keys.items) }
     {
         let mut others = keys;
         if others.len() != 1 {
-            return Tuple::many(others);
+            return Ok(Tuple::many(ranked(alloc, others)?));
         }
-        Tuple::one(others.remove(0))
+        Ok(Tuple::one(RankedKey::new(others.remove(0))))
     }
 
     /// A copy of it.
@@ -152,22 +149,12 @@ impl Tuple {
     }
 
     /// Its keys.
-    fn keys(&self) -> &[Key]
+    fn keys(&self) -> &[RankedKey]
         ensures { result.now ≡ self.now }
     {
         match &self.keys {
             TupleKeys::One(key) => slice::from_ref(key),
             TupleKeys::Many(keys) => keys.as_slice(),
-        }
-    }
-
-    /// The order of it and another one by their keys alone.
-    fn cmp_keys(&self, other: &Tuple) -> Ordering
-        ensures { result ≡ tuple_cmp self.now other.now }
-    {
-        match (&self.keys, &other.keys) {
-            (TupleKeys::One(key), TupleKeys::One(other)) => key.cmp(other),
-            _ => self.keys().cmp(&other.keys()),
         }
     }
 
@@ -179,20 +166,18 @@ impl Tuple {
     }
 
     /// The tuple of one column.
-    pub(crate) fn one(key: Key) -> Tuple
+    pub(crate) fn one(key: RankedKey) -> Tuple
         ensures { result ≡ key ∷ [] }
     {
         Tuple {
-            rank: key_rank(&key),
             keys: TupleKeys::One(key),
         }
     }
 
-    fn many(keys: Vec<Key>) -> Tuple
+    fn many(keys: Vec<RankedKey>) -> Tuple
         ensures { result ≡ keys.items }
     {
         Tuple {
-            rank: first_rank(keys.as_slice()),
             keys: TupleKeys::Many(keys),
         }
     }
@@ -202,7 +187,7 @@ impl Tuple {
         ensures { result ≡ begins_with key.now self.now }
     {
         match self.keys().first() {
-            Some(first) => key.cmp(first).is_eq(),
+            Some(first) => key.cmp(first.key()).is_eq(),
             None => false,
         }
     }
@@ -219,7 +204,7 @@ impl Tuple {
         ensures { viewed result ≡ shallow (cell_at (data_of self.now) k) }
     {
         match self.keys().get(k) {
-            Some(key) => key.view(),
+            Some(key) => key.key().view(),
             None => CellView::Null,
         }
     }
@@ -229,34 +214,50 @@ impl Tuple {
         ensures { IfOk result (λ cell. cell ≡ cell_at (data_of self.now) k) }
     {
         match self.keys().get(k) {
-            Some(key) => Ok(key.value(alloc)?),
+            Some(key) => Ok(key.key().value(alloc)?),
             None => Ok(no_value()),
         }
     }
 }
 
-/// The rank of the first key; 0 where there is none.
-fn first_rank(keys: &[Key]) -> u64
-    ensures { IsTupleRank keys.now result }
-{
-    match keys.first() {
-        Some(key) => key_rank(key),
-        None => 0,
-    }
-}
-
 /// The keys of a row's cells in some columns.
-fn each_key<R: RowView>(alloc: Global, columns: &[usize], row: &R) -> Result<Vec<Key>, AllocError>
+fn each_key<R: RowView>(
+    alloc: Global,
+    columns: &[usize],
+    row: &R,
+) -> Result<Vec<RankedKey>, AllocError>
     ensures { IfOk result (λ keys. keys.items ≡ tuple_of columns.now (R.cells row.now)) }
 {
     let mut keys = Vec::with_capacity(alloc, columns.len())?;
     for column in columns {
-        keys.push(key_or_null(alloc, row, *column)?)?;
+        keys.push(RankedKey::new(key_or_null(alloc, row, *column)?))?;
     }
     Ok(keys)
 }
 
-fn copies_of(alloc: Global, keys: &[Key]) -> Result<Vec<Key>, AllocError>
+/// The keys without their ranks.
+fn keys_of(alloc: Global, ranked: Vec<RankedKey>) -> Result<Vec<Key>, AllocError>
+    ensures { IfOk result (λ keys. keys.items ≡ ranked.items) }
+{
+    let mut keys = Vec::with_capacity(alloc, ranked.len())?;
+    for key in ranked {
+        keys.push(key.into_key())?;
+    }
+    Ok(keys)
+}
+
+/// The keys with their ranks.
+fn ranked(alloc: Global, keys: Vec<Key>) -> Result<Vec<RankedKey>, AllocError>
+    ensures { IfOk result (λ ranked. ranked.items ≡ keys.items) }
+{
+    let mut ranked = Vec::with_capacity(alloc, keys.len())?;
+    for key in keys {
+        ranked.push(RankedKey::new(key))?;
+    }
+    Ok(ranked)
+}
+
+fn copies_of(alloc: Global, keys: &[RankedKey]) -> Result<Vec<RankedKey>, AllocError>
     ensures { IfOk result (λ copies. copies.items ≡ keys.now) }
 {
     let mut copies = Vec::with_capacity(alloc, keys.len())?;
