@@ -1,9 +1,9 @@
 //! Ranks of a few keys.
 
-use crate::{KEY_RANKS, key_rank};
+use crate::{RankedKey, key_rank};
 use std::alloc::{AllocError, Global};
 use std::test::Fail;
-use values::{Key, KeyText};
+use values::{CellView, Key};
 
 /// Keys in ascending order. Some have the rank of their neighbour.
 fn ascending_keys(alloc: Global) -> Result<Vec<Key>, AllocError> {
@@ -13,7 +13,9 @@ fn ascending_keys(alloc: Global) -> Result<Vec<Key>, AllocError> {
         keys.push(Key::Int(number))?;
     }
     for text in ["", "a", "b", "row 0001", "row 00010", "row 1000"] {
-        keys.push(Key::Utf8(KeyText::new(alloc, text)?))?;
+        if let Some(key) = Key::of_cell(alloc, CellView::Utf8(text))? {
+            keys.push(key)?;
+        }
     }
     keys.push(Key::Null)?;
     Ok(keys)
@@ -25,18 +27,38 @@ fn ranks_are_ordered_as_keys(rt: HostRuntime) -> Result<(), Fail> {
     for key in ascending_keys(rt.alloc())? {
         ranks.push(key_rank(&key))?;
     }
-    let middle = KEY_RANKS / 2;
-    assert_eq!(rt;
-        ranks[..6],
-        [0, 0, 0, (1 << 60) - 1, 1 << 60, middle - 1][..]
-    );
-    assert_eq!(rt;
-        ranks[6..9],
-        [middle - 1, middle, middle + 0x0c20_0000_0000_0000][..]
-    );
-    assert_eq!(rt; ranks[10], ranks[11]);
-    assert!(rt; ranks[9] < ranks[10]);
-    assert!(rt; ranks[11] < ranks[12]);
-    assert_eq!(rt; ranks[13], KEY_RANKS - 1);
+    let expected = [
+        0,
+        0,
+        0,
+        0x0fff_ffff_ffff_ffff,
+        0x1000_0000_0000_0000,
+        0x1fff_ffff_ffff_ffff,
+        0x1fff_ffff_ffff_ffff,
+        0x2000_0000_0000_0000,
+        0x2c20_0000_0000_0000,
+        0x2c40_0000_0000_0000,
+        0x2e4d_eee4_0606_0606,
+        0x2e4d_eee4_0606_0606,
+        0x2e4d_eee4_0626_0606,
+        0x3fff_ffff_ffff_ffff,
+    ];
+    assert_eq!(rt; ranks.as_slice(), expected.as_slice());
+    Ok(())
+}
+
+#[test]
+fn keys_with_ranks_are_ordered_as_keys(rt: HostRuntime) -> Result<(), Fail> {
+    let mut last: Option<RankedKey> = None;
+    for key in ascending_keys(rt.alloc())? {
+        let ranked = RankedKey::new(key);
+        assert!(rt; ranked == ranked.copy(rt.alloc())?);
+        if let Some(last) = &last {
+            assert!(rt; *last < ranked);
+        }
+        last = Some(ranked);
+    }
+    let null = RankedKey::new(Key::Null);
+    assert!(rt; null.into_key() == Key::Null);
     Ok(())
 }
