@@ -160,10 +160,13 @@ impl<'a, R: std::rt::Files + Input + Print + Eprint + Clock + AllocGlobal> Files
         match fs::open(self.runtime, path) {
             Ok(file) => {
                 let progress = self.progress_of(&file);
-                Ok(Tracked {
-                    source: Source::File(Box::new(self.runtime.alloc(), file)?),
-                    progress,
-                })
+                match Box::new(self.runtime.alloc(), file) {
+                    Ok(file) => Ok(Tracked {
+                        source: Source::File(file),
+                        progress,
+                    }),
+                    Err(_) => Err(FileFault::Memory),
+                }
             }
             Err(error) => Err(fault_of(error)),
         }
