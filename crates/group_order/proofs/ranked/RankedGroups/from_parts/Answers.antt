@@ -11,6 +11,6 @@ loop-entry-preserved c =
     let whole = ap (λ (l : List GroupEntryParts). c.loop-entry.placed.keys ++ map entry_with l) (sym left)
     ∙ c.loop-entry.invariant in
     ap (λ (l : List GroupEntry). l ++ map entry_with c.next.new.self.rest.items) c.in_ok-insert.ensures.keys
-    ∙ insert-next group_entry_cmp group_entry_total entry_with c.loop-entry.placed.keys c.in_ok-from_parts-in-loop-entry.field-0
-    c.in-Some.entry c.next.new.self.rest.items c.args.parts.entries.items c.in_ok-from_parts-in-loop-entry.ensures whole
+    ∙ insert-next group_entry_cmp group_entry_total entry_with c.loop-entry.placed.keys c.in_ok-from_parts.field-0
+    c.in-Some.entry c.next.new.self.rest.items c.args.parts.entries.items c.in_ok-from_parts.ensures whole
     c.requires.ascending
