@@ -1,12 +1,13 @@
 //! Where single rows lie in chunks, each found by its number.
 
-ghost use Rattle.std.specs.Prelude.{◌≡◌, ℕ, ◌<◌, All, IfOk, IfSome, length, map};
+ghost use Rattle.std.specs.Prelude.{◌≡◌, ℕ, ◌<◌, [], All, IfOk, IfSome, MatchOption, length, map};
 ghost use Rattle.body_writer.specs.Locations.{IsLocated, IsRowAt, located_rows};
-ghost use Rattle.row_keys.specs.Chunks.{AreChunks, row_in};
+ghost use Rattle.row_keys.specs.Chunks.{AreChunks, LiesAt, row_in};
 ghost use Rattle.row_keys.specs.Locations.{AreAtLocations, AreBatches, IsAtLocation, MayBeAtLocations, row_if};
 
 use crate::runs::locate_near;
 use crate::stored_chunk::StoredChunk;
+use crate::stored_rows::Location;
 use body_writer::{Batch, RowLocation};
 use std::alloc::{AllocError, Global};
 
@@ -28,8 +29,21 @@ fn mean_span(chunks: &[StoredChunk]) -> usize
     numbers.div_ceil(chunks.len().max(1)).max(1)
 }
 
-/// The locations of the rows of these numbers, which are retained. The chunk of a number is looked for first where it
-/// would be if all had as many numbers.
+/// Where the row of this number lies, if it is retained. It is looked for first where it would be if each chunk had this
+/// many numbers.
+fn locate_by_span(chunks: &[StoredChunk], span: usize, number: usize) -> Option<Location>
+    requires chunks { (len : ℕ) × AreChunks 0 chunks.now len }
+    requires span { 0 < span }
+    ensures { MatchOption result (row_in chunks.now number ≡ []) (λ at. LiesAt chunks.now number at.chunk at.index) }
+{
+    let near = Location {
+        chunk: number / span,
+        index: number % span,
+    };
+    locate_near(chunks, near, number)
+}
+
+/// The locations of the rows of these numbers, which are retained.
 fn find_locations(
     alloc: Global,
     chunks: &[StoredChunk],
@@ -42,7 +56,7 @@ fn find_locations(
     let span = mean_span(chunks);
     let mut locations = Vec::with_capacity(alloc, numbers.len())?;
     for number in numbers {
-        let at = locate_near(chunks, *number / span, *number).unwrap();
+        let at = locate_by_span(chunks, span, *number).unwrap();
         locations.push(RowLocation {
             batch: at.chunk,
             row: at.index,
@@ -93,7 +107,7 @@ fn place_if(chunks: &[StoredChunk], span: usize, number: Option<usize>) -> RowLo
             row: 0,
         };
     };
-    let found = locate_near(chunks, number / span, number).unwrap();
+    let found = locate_by_span(chunks, span, number).unwrap();
     RowLocation {
         batch: found.chunk,
         row: found.index,

@@ -32,13 +32,13 @@ pub(crate) fn chunk_near(chunks: &[StoredChunk], near: usize, number: usize) -> 
     chunk_of(chunks, number)
 }
 
-/// Where the row of this number lies, if it is retained.
-pub(crate) fn locate_near(chunks: &[StoredChunk], near: usize, number: usize) -> Option<Location>
+/// Where the row of this number lies, if it is retained. It is looked for at `near` first.
+pub(crate) fn locate_near(chunks: &[StoredChunk], near: Location, number: usize) -> Option<Location>
     requires { (len : ℕ) × AreChunks 0 chunks.now len }
     ensures { MatchOption result (row_in chunks.now number ≡ []) (λ at. LiesAt chunks.now number at.chunk at.index) }
 {
-    let place = chunk_near(chunks, near, number)?;
-    index_in(chunks, place, number)
+    let place = chunk_near(chunks, near.chunk, number)?;
+    index_in(chunks, place, near.index, number)
 }
 
 /// Adds a run to the ranges, unless it has no rows.
@@ -84,7 +84,11 @@ pub(crate) fn find_ranges<'a>(
         to: 0,
     };
     for number in numbers {
-        let at = locate_near(chunks, run.chunk, *number).unwrap();
+        let near = Location {
+            chunk: run.chunk,
+            index: run.to,
+        };
+        let at = locate_near(chunks, near, *number).unwrap();
         if at.chunk == run.chunk && at.index == run.to {
             run.to += 1;
         } else {

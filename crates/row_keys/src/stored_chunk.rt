@@ -8,6 +8,7 @@ ghost use Rattle.std.specs.Prelude.{
   IfOk,
   MatchOption,
   false,
+  get_or,
   length,
   min,
   nat_lt,
@@ -90,15 +91,30 @@ fn count_below(numbers: &[usize], number: usize) -> usize
     )
 }
 
-/// The index of a number among these.
-fn place_among(numbers: &[usize], number: usize) -> Option<usize>
+/// Whether the number at an index is this one.
+fn is_number_at(numbers: &[usize], index: usize, number: usize) -> bool
+    ensures yes { result ≡ true → (index < length numbers.now) × (get_or numbers.now index number ≡ number) }
+    ensures no { result ≡ false → index < length numbers.now → (get_or numbers.now index number ≡ number) → ⊥ }
+{
+    match numbers.get(index) {
+        Some(one) => *one == number,
+        None => false,
+    }
+}
+
+/// The index of a number among these. Index `near` is tried first.
+fn place_among(numbers: &[usize], near: usize, number: usize) -> Option<usize>
     requires { (from : ℕ) × (end : ℕ) × AreRising from numbers.now end }
     ensures { MatchOption result (IsNoneOf numbers.now number) (IsPlaceOf numbers.now number) }
 {
+    if is_number_at(numbers, near, number) {
+        return Some(near);
+    }
     let place = count_below(numbers, number);
-    match numbers.get(place) {
-        Some(one) => { if *one == number { Some(place) } else { None } }
-        None => None,
+    if is_number_at(numbers, place, number) {
+        Some(place)
+    } else {
+        None
     }
 }
 
@@ -112,15 +128,15 @@ fn place_in_turn(first: usize, count: usize, number: usize) -> Option<usize>
     Some(number - first)
 }
 
-/// The index of the row of this number in a chunk, if it has one.
-pub(crate) fn index_of(chunk: &StoredChunk, number: usize) -> Option<usize>
+/// The index of the row of this number in a chunk, if it has one. Index `near` is tried first.
+pub(crate) fn index_near(chunk: &StoredChunk, near: usize, number: usize) -> Option<usize>
     requires { IsLong chunk.now }
     ensures { MatchOption result (IsNoneOf chunk.now.numbers number) (IsPlaceOf chunk.now.numbers number) }
 {
     if chunk.numbers.is_empty() {
         return place_in_turn(chunk.first, chunk.gone.len(), number);
     }
-    place_among(&chunk.numbers, number)
+    place_among(&chunk.numbers, near, number)
 }
 
 /// Row `index` of a chunk: without cells where it is released.

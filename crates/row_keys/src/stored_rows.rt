@@ -50,8 +50,8 @@ ghost use Rattle.row_keys.specs.RowsLeft.{IsHeld, IsSplit};
 
 use crate::locating::{StoredLocations, locate_rows, locate_rows_if};
 use crate::rewriting::{merge, write_tail};
-use crate::runs::{chunk_near, find_ranges, locate_near};
-use crate::stored_chunk::{StoredChunk, flags, index_of, release_in, row_of, shorten};
+use crate::runs::{find_ranges, locate_near};
+use crate::stored_chunk::{StoredChunk, flags, index_near, release_in, row_of, shorten};
 use crate::stored_row::StoredRow;
 use arrays::Column;
 use body_writer::{Batch, RowRange};
@@ -86,8 +86,8 @@ pub(crate) struct StoredRows {
     len: usize,
     // How many chunks have no columns.
     spent: usize,
-    // The index of the chunk that is looked at first.
-    near: usize,
+    // Where the row that was visited last lies: a row is looked for there first.
+    near: Location,
 }
 
 impl Model for StoredRows {
@@ -140,12 +140,21 @@ pub(crate) struct Location {
     pub(crate) index: usize,
 }
 
-/// Where the row of this number lies, if it is retained: in the chunk at this index, which spans the number.
-pub(crate) fn index_in(chunks: &[StoredChunk], place: usize, number: usize) -> Option<Location>
+/// The first row of the first chunk.
+const FIRST_ROW: Location = Location { chunk: 0, index: 0 };
+
+/// Where the row of this number lies, if it is retained: in the chunk at this index, which spans the number. Row `near`
+/// of the chunk is tried first.
+pub(crate) fn index_in(
+    chunks: &[StoredChunk],
+    place: usize,
+    near: usize,
+    number: usize,
+) -> Option<Location>
     requires { LiesIn chunks.now number place }
     ensures { MatchOption result (row_in chunks.now number ≡ []) (λ at. LiesAt chunks.now number at.chunk at.index) }
 {
-    let index = index_of(&chunks[place], number)?;
+    let index = index_near(&chunks[place], near, number)?;
     Some(Location {
         chunk: place,
         index,
@@ -343,7 +352,7 @@ impl StoredRows {
             chunks: Vec::new(alloc),
             len: 0,
             spent: 0,
-            near: 0,
+            near: FIRST_ROW,
         }
     }
 
@@ -357,7 +366,7 @@ impl StoredRows {
             chunks,
             len,
             spent: 0,
-            near: 0,
+            near: FIRST_ROW,
         }
     }
 
@@ -554,11 +563,11 @@ impl StoredRows {
         self.ease_at(number);
     }
 
-    /// Looks at the chunk of this number first from now on.
+    /// Looks for rows first where the row of this number lies, from now on.
     pub(crate) fn seek(&mut self, number: usize)
         ensures { self.new ≡ self.old }
     {
-        self.near = chunk_near(&self.chunks, self.near, number).unwrap_or(self.near);
+        self.near = locate_near(&self.chunks, self.near, number).unwrap_or(self.near);
     }
 
     /// The row of this number: without cells where it is released, or was never added.
