@@ -45,6 +45,7 @@ use Rattle.row_keys.specs.Slots.{
   CanPutBack,
   CanRetract,
   CanRevert,
+  IsLiveAt,
   Slot,
   contents_of,
   live,
@@ -79,6 +80,7 @@ use Rattle.upkeep.proofs.MainTable.{
   of_set,
   put_back_few,
   retracted_few,
+  retracted_live,
   retracted_there,
 }
 
@@ -333,6 +335,14 @@ pub retract_there :
     → CanRetract ns s.slots → All (λ n. n < length (rows_at (rows_in stores) 0)) named
 retract_there stores s ns named is main same can =
     rows_named stores s ns named is main same (retracted_there ns s.slots can)
+
+pub retract_alive :
+    (stores : List Store) (s : Store) (ns named : List ℕ) → s ≡ get_or stores 0 s → 0 < length stores → named ≡ ns
+    → CanRetract ns s.slots → All (IsLiveAt (rows_at (rows_in stores) 0)) named
+retract_alive stores s ns named is main same can =
+    let P : List Slot → Type 0 = λ ss. All (IsLiveAt ss) ns in
+    let Q : List ℕ → Type 0 = λ ms. All (IsLiveAt (rows_at (rows_in stores) 0)) ms in
+    subst Q (sym same) (subst P (sym (rows_there stores 0 s is main)) (retracted_live ns s.slots can))
 
 pub retract_needs :
     RowsAreLive → FewRetracted → RetractedGo → (stores : List Store) (views vs : List View) (states : List ViewState)

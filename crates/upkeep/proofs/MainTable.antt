@@ -33,6 +33,7 @@ use Rattle.std.specs.Prelude.{slice_index_or, slice_set}
 use Rattle.std.specs.List.{range_with_len}
 use Rattle.std.proofs.lemmas.List.{length-append, length-map}
 use Rattle.std.proofs.lemmas.List.Elements.{All-cons}
+use Rattle.std.proofs.lemmas.Bool.{true≢false}
 use Rattle.std.proofs.lemmas.Option.{none-some}
 use Rattle.values.specs.Datum.{Datum}
 use Rattle.values.specs.Limits.{max_main_rows}
@@ -45,7 +46,7 @@ use Rattle.view_lang.specs.Views.{side_in}
 use Rattle.view_lang.specs.declared.view.Lookup.{Lookup}
 use Rattle.row_keys.specs.Numbered.{come, numbered}
 use Rattle.row_keys.specs.NumberLaws.{FewPutBack, FewRetracted, Leads, NewCome, RowsAreLive, with_new}
-use Rattle.row_keys.specs.Slots.{AreRetracted, CanPutBack, CanRetract, CanRevert, IsThere, Slot, live, marked, new_slot, put_back, slot}
+use Rattle.row_keys.specs.Slots.{AreRetracted, CanPutBack, CanRetract, CanRevert, IsLiveAt, IsThere, Slot, live, marked, new_slot, put_back, slot}
 use Rattle.row_keys.specs.Store.{Store}
 use Rattle.upkeep.specs.Inputs.{side_by}
 use Rattle.upkeep.specs.LiveParts.{AreLive, AreOf}
@@ -269,6 +270,32 @@ retracted_there (n ∷ ns) slots can =
     All-cons (λ m. m < length slots) n ns (there_below slots n true can.0)
     (weaker (λ m. m < length (marked false slots n)) (λ m. m < length slots) ns (below_after false slots n)
     (retracted_there ns (marked false slots n) can.1))
+
+-- Rows that are retracted are live, each of them before any of them is.
+
+abbrev slot_live : Option Slot → Bool
+slot_live None = false
+slot_live (Some s) = s.live
+
+live_there : (slots : List Slot) (n : ℕ) → IsThere slots n true → IsLiveAt slots n
+live_there [] n there = absurd (none-some (slot there.0 true) there.1)
+live_there (s ∷ ss) zero there = ap slot_live there.1
+live_there (s ∷ ss) (suc n) there = live_there ss n there
+
+live_before : (slots : List Slot) (n m : ℕ) → IsLiveAt (marked false slots n) m → IsLiveAt slots m
+live_before [] n m h = h
+live_before (s ∷ ss) zero zero h = absurd (true≢false (sym h))
+live_before (s ∷ ss) zero (suc m) h = h
+live_before (s ∷ ss) (suc n) zero h = h
+live_before (s ∷ ss) (suc n) (suc m) h = live_before ss n m h
+
+pub retracted_live : (ns : List ℕ) (slots : List Slot) → CanRetract ns slots → All (IsLiveAt slots) ns
+unfolding CanRetract
+retracted_live [] slots can = λ k d below. absurd (omega (arith, below))
+retracted_live (n ∷ ns) slots can =
+    All-cons (IsLiveAt slots) n ns (live_there slots n can.0)
+    (weaker (IsLiveAt (marked false slots n)) (IsLiveAt slots) ns (live_before slots n)
+    (retracted_live ns (marked false slots n) can.1))
 
 are_there : (t : Table) (ns : List ℕ) (slots : List Slot) → AreRetracted t ns slots → All (λ n. n < length slots) ns
 unfolding AreRetracted

@@ -111,6 +111,10 @@ module _ (make : List Datum → Option (List Datum)) (slots : List Slot) (n : �
 
 -- Changes one after the other
 
+turned_many : (slots : List Slot) (t : Turn) (ns : List ℕ) → length (turned t slots ns) ≡ length ns
+turned_many slots turn.Come ns = length-map ns _
+turned_many slots turn.Go ns = length-map ns _
+
 module _ (make : List Datum → Option (List Datum)) (slots : List Slot) where
   pub one_of : (t : Turn) (ns : List ℕ) (i : ℕ) (d : Shift) → i < length ns
       → get_or (map (shift_image make) (turned t slots ns)) i d ∷ []
@@ -121,12 +125,8 @@ module _ (make : List Datum → Option (List Datum)) (slots : List Slot) where
   one_of turn.Come (n ∷ ns) (suc i) d below = one_of turn.Come ns i d (omega (arith, below))
   one_of turn.Go (n ∷ ns) (suc i) d below = one_of turn.Go ns i d (omega (arith, below))
 
-  turned_many : (t : Turn) (ns : List ℕ) → length (turned t slots ns) ≡ length ns
-  turned_many turn.Come ns = length-map ns _
-  turned_many turn.Go ns = length-map ns _
-
   pub change_many : (t : Turn) (ns : List ℕ) → length (map (shift_image make) (turned t slots ns)) ≡ length ns
-  change_many t ns = length-map (turned t slots ns) (shift_image make) ∙ turned_many t ns
+  change_many t ns = length-map (turned t slots ns) (shift_image make) ∙ turned_many slots t ns
 
 one_longer-by : (o : Ordering) (a b c : NumberedRows) (k : ℕ) → length a ≤ k → length b ≤ k → length c ≤ k
     → length (match_ordering o a b c) ≤ k
@@ -173,30 +173,92 @@ pub record IsNext (rows : NumberedRows) (es one : List Shift) (i : ℕ) : Type 0
   pub fits : Fits (patched rows (take i es)) one
   pub more : patched rows (take (i + 1) es) ≡ patched (patched rows (take i es)) one
 
+next_at : (es one : List Shift) (i : ℕ) (rows : NumberedRows) → i < length es
+    → get_or es i (shift 0 None None) ∷ [] ≡ one → Fits rows es → IsNext rows es one i
+next_at es one i rows inside is_one fits =
+    let e : Shift = get_or es i (shift 0 None None) in
+    let is : e ≡ get_or es i e = get_or_default es i (shift 0 None None) e inside in
+    let step : i + 1 ≡ suc i = omega arith in
+    let at = fits-at rows es fits i e inside is in
+    record {
+      fits = subst (Fits (patched rows (take i es))) is_one (record { ascending = at.0; in_turn = (at.1, tt) });
+      more = ap (λ k. patched rows (take k es)) step ∙ patched-more rows es i e inside is
+          ∙ ap (patched (patched rows (take i es))) is_one;
+    }
+
 pub next_of : (make : List Datum → Option (List Datum)) (t : Turn) (slots : List Slot) (ns : List ℕ) (i : ℕ)
     (rows : NumberedRows) → i < length ns → Fits rows (map (shift_image make) (turned t slots ns))
     → IsNext rows (map (shift_image make) (turned t slots ns))
     (map (shift_image make) (turned t slots (get_or ns i 0 ∷ []))) i
 next_of make t slots ns i rows below fits =
-    let es : List Shift = map (shift_image make) (turned t slots ns) in
-    let e : Shift = get_or es i (shift 0 None None) in
     let many = change_many make slots t ns in
-    let inside : i < length es = omega (arith, below, many) in
-    let is : e ≡ get_or es i e = get_or_default es i (shift 0 None None) e inside in
-    let one = one_of make slots t ns i (shift 0 None None) below in
-    let step : i + 1 ≡ suc i = omega arith in
-    let at = fits-at rows es fits i e inside is in
-    record {
-      fits = subst (Fits (patched rows (take i es))) one (record { ascending = at.0; in_turn = (at.1, tt) });
-      more = ap (λ k. patched rows (take k es)) step ∙ patched-more rows es i e inside is
-          ∙ ap (patched (patched rows (take i es))) one;
-    }
+    next_at (map (shift_image make) (turned t slots ns)) (map (shift_image make) (turned t slots (get_or ns i 0 ∷ []))) i
+    rows (omega (arith, below, many)) (one_of make slots t ns i (shift 0 None None) below) fits
+
+-- the same of the rows themselves
+
+one_turned : (slots : List Slot) (t : Turn) (ns : List ℕ) (i : ℕ) (d : Shift) → i < length ns
+    → get_or (turned t slots ns) i d ∷ [] ≡ turned t slots (get_or ns i 0 ∷ [])
+one_turned slots t [] i d below = absurd (omega (arith, below))
+one_turned slots turn.Come (n ∷ ns) zero d below = refl
+one_turned slots turn.Go (n ∷ ns) zero d below = refl
+one_turned slots turn.Come (n ∷ ns) (suc i) d below = one_turned slots turn.Come ns i d (omega (arith, below))
+one_turned slots turn.Go (n ∷ ns) (suc i) d below = one_turned slots turn.Go ns i d (omega (arith, below))
+
+next_turned : (t : Turn) (slots : List Slot) (ns : List ℕ) (i : ℕ) (rows : NumberedRows) → i < length ns
+    → Fits rows (turned t slots ns)
+    → IsNext rows (turned t slots ns) (turned t slots (get_or ns i 0 ∷ [])) i
+next_turned t slots ns i rows below fits =
+    let many = turned_many slots t ns in
+    next_at (turned t slots ns) (turned t slots (get_or ns i 0 ∷ [])) i rows (omega (arith, below, many))
+    (one_turned slots t ns i (shift 0 None None) below) fits
 
 pub few_next : (rows : NumberedRows) (es : List Shift) (i : ℕ) → IsFew rows es
     → length (patched rows (take i es)) < max_appended_rows
 few_next rows es i few =
     let a = patched_few rows (take i es) in
     let b = taken_few es i in omega (arith, few, a, b)
+
+taken_most : (es : List Shift) (i : ℕ) → length (take i es) ≤ i
+taken_most [] zero = omega arith
+taken_most [] (suc i) = omega arith
+taken_most (e ∷ es) zero = omega arith
+taken_most (e ∷ es) (suc i) = let rest = taken_most es i in omega (arith, rest)
+
+-- Views that are current with rows and follow their changes one by one
+
+module _ (P Q R : NumberedRows → Type 0) (t : Turn) (slots : List Slot) (ns : List ℕ) (i : ℕ) (below : i < length ns)
+    (so_far : (rows : NumberedRows) → Fits rows (turned t slots ns) → P rows
+    → Q (patched rows (take i (turned t slots ns)))) where
+  pub one_needs : (rows : NumberedRows) → P rows → Fits rows (turned t slots ns) → IsFew rows (turned t slots ns)
+      → (now : NumberedRows) × (Q now × (Fits now (turned t slots (get_or ns i 0 ∷ []))
+      × IsFew now (turned t slots (get_or ns i 0 ∷ []))))
+  one_needs rows before fits few =
+      let es : List Shift = turned t slots ns in
+      let next = next_turned t slots ns i rows below fits in
+      let many = turned_many slots t ns in
+      let one = turned_many slots t (get_or ns i 0 ∷ []) in
+      let a = patched_few rows (take i es) in
+      let b = taken_most es i in (
+        patched rows (take i es),
+        (so_far rows fits before, (next.fits, omega (arith, few, many, one, a, b, below))),
+      )
+
+  pub one_more : ((rows : NumberedRows) → Fits rows (turned t slots (get_or ns i 0 ∷ [])) → Q rows
+      → R (patched rows (turned t slots (get_or ns i 0 ∷ []))))
+      → (rows : NumberedRows) → Fits rows (turned t slots ns) → P rows
+      → R (patched rows (take (i + 1) (turned t slots ns)))
+  one_more turned_one rows fits before =
+      let next = next_turned t slots ns i rows below fits in
+      subst R (sym next.more) (turned_one (patched rows (take i (turned t slots ns))) next.fits (so_far rows fits before))
+
+pub all_turned : (P Q : NumberedRows → Type 0) (t : Turn) (slots : List Slot) (ns : List ℕ) (i : ℕ) → length ns ≤ i
+    → ((rows : NumberedRows) → Fits rows (turned t slots ns) → P rows → Q (patched rows (take i (turned t slots ns))))
+    → (rows : NumberedRows) → Fits rows (turned t slots ns) → P rows → Q (patched rows (turned t slots ns))
+all_turned P Q t slots ns i past so_far rows fits before =
+    let many = turned_many slots t ns in
+    subst (λ (ch : List Shift). Q (patched rows ch)) (take_all i (turned t slots ns) (omega (arith, past, many)))
+    (so_far rows fits before)
 
 -- A row of the main table that is visited
 

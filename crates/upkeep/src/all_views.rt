@@ -1,8 +1,8 @@
 //! Updates the states of all views for rows of the main table that are inserted or deleted.
 
-ghost use Rattle.std.specs.Prelude.{◌≡◌, ◌<◌, ◌≤◌, ◌+◌, ◌*◌, [], All, IfOk, List, OnErr, OnOk};
+ghost use Rattle.std.specs.Prelude.{◌≡◌, ◌<◌, ◌≤◌, ◌+◌, ◌*◌, ◌∷◌, [], All, IfOk, List, OnErr, OnOk};
 ghost use Rattle.std.specs.Prelude.{count_by, false, length, map, slice_set, true};
-ghost use Rattle.row_keys.specs.Slots.{last_numbers};
+ghost use Rattle.row_keys.specs.Slots.{IsLiveAt, last_numbers};
 ghost use Rattle.view_lang.specs.Config.{Table};
 ghost use Rattle.view_lang.specs.Shifts.{NumberedRows};
 ghost use Rattle.upkeep.specs.Arrivals.{EachDescribes, last_rows, rows_of_numbers};
@@ -10,12 +10,14 @@ ghost use Rattle.upkeep.specs.Following.{CanFollow, CanFollowMain, ViewsFollow};
 ghost use Rattle.upkeep.specs.LiveParts.{AreOf};
 ghost use Rattle.upkeep.specs.Stores.{HaveSameRows, Rows, main_slots, visits_in};
 ghost use Rattle.upkeep.specs.ViewStates.{AreCurrentFor, EachIsCurrent, stale_in, turned, turned_last, width_in};
+ghost use Rattle.upkeep.specs.declared.view_state.Turn.TheVariants as turn_is;
 
 use crate::arrivals::{Arrival, arrival_at};
-use crate::follow::follow;
+use crate::follow::{follow, follow_one};
 use crate::view_state::{Turn, ViewState};
 use row_keys::RowStore;
 use std::alloc::{AllocError, Global};
+use values::KeyBuffer;
 use view_lang::View;
 
 /// The states of these views of tables without rows. The main table has `width` columns.
@@ -108,7 +110,7 @@ fn follow_each(
 }
 
 /// Updates the views' states for rows of the main table that are inserted or deleted. After an error all are stale.
-pub(crate) fn follow_all(
+fn follow_all(
     alloc: Global,
     stores: &mut Vec<RowStore>,
     views: &[View],
@@ -132,6 +134,106 @@ pub(crate) fn follow_all(
         ≤ visits_in stores.old.items + length views.now * length numbers.now }
 {
     match follow_each(alloc, stores, views, states, turn, numbers, arrivals) {
+        Ok(()) => Ok(()),
+        Err(refused) => {
+            mark_all_stale(states);
+            Err(refused)
+        }
+    }
+}
+
+/// Updates each view's state for the row of this number, which is inserted, or live and deleted. If memory is refused,
+/// the states are meaningless.
+fn follow_row(
+    stores: &mut Vec<RowStore>,
+    views: &[View],
+    states: &mut Vec<ViewState>,
+    turn: Turn,
+    number: usize,
+    keys: &mut KeyBuffer,
+) -> Result<(), AllocError>
+    requires these { AreOf stores.old.items views.now }
+    requires alike { length states.old.items ≡ length views.now }
+    requires there { number < length (main_slots stores.old.items) }
+    requires live { turn ≡ turn_is.Go → IsLiveAt (main_slots stores.old.items) number }
+    requires fits { CanFollow (AreCurrentFor stores.old.items views.now states.old.items)
+        (turned turn (main_slots stores.old.items) (number ∷ [])) }
+    ensures kept { OnOk result (ViewsFollow stores.old.items views.now states.old.items states.new.items
+        (turned turn (main_slots stores.old.items) (number ∷ []))) }
+    ensures stale { OnOk result (stale_in states.new.items ≡ stale_in states.old.items) }
+    ensures many { length states.new.items ≡ length states.old.items }
+    ensures same_rows { HaveSameRows stores.old.items stores.new.items }
+    ensures visits { visits_in stores.new.items ≤ visits_in stores.old.items + length views.now }
+{
+    for place in 0..views.len() {
+        follow_one(
+            stores,
+            &views[place],
+            &mut states[place],
+            turn,
+            number,
+            keys,
+        )?;
+    }
+    Ok(())
+}
+
+/// Updates each view's state for the rows of these numbers, which are inserted, or live and deleted, row by row, so that
+/// a row is looked for once. If memory is refused, the states are meaningless.
+fn follow_each_row(
+    alloc: Global,
+    stores: &mut Vec<RowStore>,
+    views: &[View],
+    states: &mut Vec<ViewState>,
+    turn: Turn,
+    numbers: &[usize],
+) -> Result<(), AllocError>
+    requires these { AreOf stores.old.items views.now }
+    requires alike { length states.old.items ≡ length views.now }
+    requires there { All (λ n. n < length (main_slots stores.old.items)) numbers.now }
+    requires live { turn ≡ turn_is.Go → All (IsLiveAt (main_slots stores.old.items)) numbers.now }
+    requires fits { CanFollow (AreCurrentFor stores.old.items views.now states.old.items)
+        (turned turn (main_slots stores.old.items) numbers.now) }
+    ensures kept { OnOk result (ViewsFollow stores.old.items views.now states.old.items states.new.items
+        (turned turn (main_slots stores.old.items) numbers.now)) }
+    ensures stale { OnOk result (stale_in states.new.items ≡ stale_in states.old.items) }
+    ensures many { length states.new.items ≡ length states.old.items }
+    ensures same_rows { HaveSameRows stores.old.items stores.new.items }
+    ensures visits { visits_in stores.new.items
+        ≤ visits_in stores.old.items + length views.now * length numbers.now }
+{
+    let mut keys = KeyBuffer::new(alloc);
+    for number in numbers {
+        follow_row(stores, views, states, turn, *number, &mut keys)?;
+    }
+    Ok(())
+}
+
+/// Updates the views' states for the rows of these numbers, which are inserted, or live and deleted, and may lie far
+/// from one another. After an error all are stale.
+pub(crate) fn follow_scattered(
+    alloc: Global,
+    stores: &mut Vec<RowStore>,
+    views: &[View],
+    states: &mut Vec<ViewState>,
+    turn: Turn,
+    numbers: &[usize],
+) -> Result<(), AllocError>
+    requires these { AreOf stores.old.items views.now }
+    requires there { All (λ n. n < length (main_slots stores.old.items)) numbers.now }
+    requires live { turn ≡ turn_is.Go → All (IsLiveAt (main_slots stores.old.items)) numbers.now }
+    requires fits { CanFollow (AreCurrentFor stores.old.items views.now states.old.items)
+        (turned turn (main_slots stores.old.items) numbers.now) }
+    ensures kept { OnOk result (ViewsFollow stores.old.items views.now states.old.items states.new.items
+        (turned turn (main_slots stores.old.items) numbers.now)) }
+    ensures stale { OnOk result (stale_in states.new.items ≡ stale_in states.old.items) }
+    ensures err { OnErr result ((tables : List Table) → (rows : Rows) → (live : NumberedRows)
+        → EachIsCurrent tables rows live views.now states.new.items) }
+    ensures same_rows { HaveSameRows stores.old.items stores.new.items }
+    ensures visits { visits_in stores.new.items
+        ≤ visits_in stores.old.items + length views.now * length numbers.now }
+{
+    match follow_each_row(alloc, stores, views, states, turn, numbers) {
         Ok(()) => Ok(()),
         Err(refused) => {
             mark_all_stale(states);

@@ -114,6 +114,39 @@ fn turn_dropped(
     }
 }
 
+/// Updates the state of a view for the row of this number, which is inserted, or live and deleted. It is visited.
+fn turn_visited(
+    stores: &mut Vec<RowStore>,
+    view: &View,
+    state: &mut ViewState,
+    turn: Turn,
+    number: usize,
+    keys: &mut KeyBuffer,
+) -> Result<(), AllocError>
+    requires view { IsView (tables_in stores.old.items) view.now }
+    requires main { 0 < length stores.old.items }
+    requires there { number < length (main_slots stores.old.items) }
+    requires live { turn ≡ turn_is.Go → (get_or (main_slots stores.old.items) number no_slot).live ≡ true }
+    requires fits { CanTurn (IsMaterialized view.now state.old.kept)
+        (projected_change (tables_in stores.old.items) (rows_in stores.old.items) view.now turn (number ∷ [])) }
+    requires links { CanTurn (KeepsLinks state.old.links)
+        (link_change (main_slots stores.old.items) state.old.links view.now turn (number ∷ [])) }
+    ensures kept { OnOk result (MaterializedFollows view.now state.old.kept state.new.kept
+        (projected_change (tables_in stores.old.items) (rows_in stores.old.items) view.now turn (number ∷ []))) }
+    ensures columns { OnOk result (columns_in state.new.kept ≡ columns_in state.old.kept) }
+    ensures links { OnOk result (LinksFollow state.old.links state.new.links
+        (link_change (main_slots stores.old.items) state.old.links view.now turn (number ∷ []))) }
+    ensures form { OnOk result (form_of state.new.links ≡ form_of state.old.links) }
+    ensures stale { state.new.stale ≡ state.old.stale }
+    ensures same_rows { HaveSameRows stores.old.items stores.new.items }
+    ensures visits { visits_in stores.new.items ≤ visits_in stores.old.items + 1 }
+{
+    let visit = stores[0].visit(number);
+    let row = stores[0].row(visit);
+    turn_link(&mut state.links, view, turn, number, &row)?;
+    turn_main_row(stores, view, &mut state.kept, turn, number, row, keys)
+}
+
 /// Updates the state of a view for the row of this number, which is inserted or deleted as row `index` of a list. It
 /// isn't visited where it is known that the view drops it. A row that isn't live isn't deleted.
 fn follow_number(
@@ -152,10 +185,36 @@ fn follow_number(
             return turn_dropped(&mut state.links, turn, number, arrival.looked_up(index));
         }
     }
-    let visit = stores[0].visit(number);
-    let row = stores[0].row(visit);
-    turn_link(&mut state.links, view, turn, number, &row)?;
-    turn_main_row(stores, view, &mut state.kept, turn, number, row, keys)
+    turn_visited(stores, view, state, turn, number, keys)
+}
+
+/// Updates the state of a view for the row of this number, which is inserted, or live and deleted. A stale view is left
+/// as it is; after an error its state is meaningless.
+pub(crate) fn follow_one(
+    stores: &mut Vec<RowStore>,
+    view: &View,
+    state: &mut ViewState,
+    turn: Turn,
+    number: usize,
+    keys: &mut KeyBuffer,
+) -> Result<(), AllocError>
+    requires view { IsView (tables_in stores.old.items) view.now }
+    requires main { 0 < length stores.old.items }
+    requires there { number < length (main_slots stores.old.items) }
+    requires live { turn ≡ turn_is.Go → (get_or (main_slots stores.old.items) number no_slot).live ≡ true }
+    requires fits { CanFollow (IsCurrentFor stores.old.items view.now state.old)
+        (turned turn (main_slots stores.old.items) (number ∷ [])) }
+    ensures kept { OnOk result (ViewFollows stores.old.items view.now state.old state.new
+        (turned turn (main_slots stores.old.items) (number ∷ []))) }
+    ensures stale { state.new.stale ≡ state.old.stale }
+    ensures same_rows { HaveSameRows stores.old.items stores.new.items }
+    ensures visits { visits_in stores.new.items ≤ visits_in stores.old.items + 1 }
+{
+    image_law();
+    if state.stale || materializes_nothing(view, state) {
+        return Ok(());
+    }
+    turn_visited(stores, view, state, turn, number, keys)
 }
 
 /// Updates the state of a view for the rows of these numbers, which are inserted or deleted. Each is visited at most

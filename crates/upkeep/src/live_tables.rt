@@ -56,7 +56,7 @@ ghost use Rattle.upkeep.specs.Touched.{OpensShown, built_of};
 ghost use Rattle.upkeep.specs.ViewStates.{width_at, width_in};
 ghost use Rattle.upkeep.specs.ViewedRows.{IsViewed, ShowsView};
 
-use crate::all_views::{count_stale, follow_all, follow_last, fresh_states, replace_state};
+use crate::all_views::{count_stale, follow_last, follow_scattered, fresh_states, replace_state};
 use crate::arrivals::arrivals_for;
 use crate::follow::rebuild;
 use crate::lookup_views::follow_lookups;
@@ -248,14 +248,13 @@ impl LiveTables {
         numbers_law();
         let numbers = self.stores[0].find_rows(columns, rows)?;
         self.stores[0].rows_law();
-        follow_all(
+        follow_scattered(
             self.alloc,
             &mut self.stores,
             &self.views,
             &mut self.states,
             Turn::Go,
             &numbers,
-            &[],
         )?;
         self.stores[0].retract(&numbers);
         Ok(TableChange::Retracted(numbers))
@@ -343,14 +342,13 @@ impl LiveTables {
     {
         numbers_law();
         self.stores[0].rows_law();
-        follow_all(
+        follow_scattered(
             self.alloc,
             &mut self.stores,
             &self.views,
             &mut self.states,
             Turn::Come,
             numbers,
-            &[],
         )?;
         self.stores[0].put_back(numbers);
         Ok(())
