@@ -1,8 +1,6 @@
 use Rattle.std.proofs.Common.{◌≡◌, Bool, List, [], ◌∷◌, None, ap, false, get_or, map, not, refl, subst, sym, true, true≢false, ◌∙◌}
-use Rattle.std.specs.Prelude.{slice_set}
 use Rattle.std.specs.Option.{option_copied, option_map}
 use Rattle.view_lang.specs.Images.{shift_image}
-use Rattle.view_lang.specs.Shifts.{Fits}
 use Rattle.row_keys.specs.Slots.{no_slot, row_of}
 use Rattle.row_keys.specs.Store.{Store}
 use Rattle.upkeep.specs.Arrivals.{DescribesRow, DescribesSome}
@@ -12,14 +10,7 @@ use Rattle.upkeep.specs.ViewStates.{IsMaterialized, KeepsLinks, link_row, projec
 use Rattle.upkeep.specs.declared.view_state.Turn.TheVariants as turn
 use Rattle.upkeep.proofs.ArrivalRows.{dropped_link, made_none}
 use Rattle.upkeep.proofs.FollowedLookups.{on_ok}
-use Rattle.upkeep.proofs.RowByRow.{
-  dead_change,
-  link_of_visited,
-  live_change,
-  made_of_visited,
-  same_change,
-  still_kept,
-}
+use Rattle.upkeep.proofs.RowByRow.{dead_change, live_change, same_change, still_kept}
 use Rattle.upkeep.proofs.follow.follow_number.Goals as goal
 
 not_true : (b : Bool) → not b ≡ true → b ≡ false
