@@ -1,4 +1,4 @@
--- A key inserted among ascending keys: they ascend as before, and it is one of them.
+-- A key inserted among ascending keys, or removed: they ascend as before, and it is one of them, or no longer.
 use Rattle.std.proofs.Common.{◌≡◌, refl, ap, sym, ◌∙◌}
 use Rattle.std.specs.Prelude.{List, [], ◌∷◌, Bool, true, false, cond, ◌||◌}
 use Rattle.std.specs.declared.cmp.Ordering.{Ordering}
@@ -9,6 +9,7 @@ use Rattle.std.specs.List.{AllByRecursion, list_any}
 use Rattle.std.specs.List.Sorted.{IsStrictlySortedBy}
 use Rattle.std.specs.BTreeMap.{is_at}
 use Rattle.std.specs.BTreeSet.{insert_key}
+use Rattle.std.specs.Set.{remove_key}
 use Rattle.view_lang.specs.SortedEntries.{all_below}
 
 module _ {K : Type 0} {R : K → K → Ordering} (o : IsTotalOrder R) where
@@ -55,3 +56,38 @@ module _ {K : Type 0} {R : K → K → Ordering} (o : IsTotalOrder R) where
         (elim (is_at (R k) p) as (λ b. (b || false) ≡ cond b true false) [ true ↦ refl | false ↦ refl ])
     any-insert_key p (x ∷ xs) =
         any_by p x xs (any-insert_key p xs) (R k x) refl (is_at (R k) p) refl (is_at (R p) x) refl
+
+    abbrev like : K → K → Bool
+    like x y = is_at (R x) y
+
+    -- a key that is like k isn't among those above one that is like k
+    none-above : (p x : K) → like k p ≡ true → like k x ≡ true → (ys : List K) → AllByRecursion (λ y. R x y ≡ Less) ys
+        → list_any (like p) ys ≡ false
+    none-above p x a b [] all = refl
+    none-above p x a b (y ∷ ys) all =
+        let same = eq_by_cmp_equiv o in
+        let unlike : like p y ≡ false =
+        sym (same.congr k p y a) ∙ same.congr k x y b ∙ ap is_eq all.0 in
+        rw unlike (none-above p x a b ys all.1)
+
+    without-by : (p x : K) (xs : List K) → AllByRecursion (λ y. R x y ≡ Less) xs
+        → list_any (like p) (remove_key (like k) xs) ≡ cond (like k p) false (list_any (like p) xs)
+        → (b : Bool) → like k x ≡ b → (d : Bool) → like k p ≡ d
+        → list_any (like p) (cond b xs (x ∷ remove_key (like k) xs))
+        ≡ cond d false (like p x || list_any (like p) xs)
+    without-by p x xs all h true q true y = none-above p x y q xs all
+    without-by p x xs all h true q false y =
+        let same = eq_by_cmp_equiv o in
+        rw (same.symm p x ∙ sym (same.congr k x p q) ∙ y) refl
+    without-by p x xs all h false q true y =
+        let same = eq_by_cmp_equiv o in
+        rw (sym (same.congr k p x y) ∙ q) (h ∙ ap (λ c. cond c false (list_any (like p) xs)) y)
+    without-by p x xs all h false q false y =
+        ap (λ c. like p x || c) (h ∙ ap (λ c. cond c false (list_any (like p) xs)) y)
+
+    pub any-remove_key : (p : K) (xs : List K) → IsStrictlySortedBy R xs
+        → list_any (is_at (R p)) (remove_key (is_at (R k)) xs) ≡ cond (is_at (R k) p) false (list_any (is_at (R p)) xs)
+    unfolding IsStrictlySortedBy
+    any-remove_key p [] s = elim (is_at (R k) p) as (λ b. false ≡ cond b false false) [ true ↦ refl | false ↦ refl ]
+    any-remove_key p (x ∷ xs) s =
+        without-by p x xs s.0 (any-remove_key p xs s.1) (like k x) refl (like k p) refl

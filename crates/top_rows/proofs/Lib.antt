@@ -1,8 +1,10 @@
 pub mod InsertedKeys
+pub mod MappedKeys
 pub mod Appended
 pub mod SortKeys
 pub mod InlineKeys
 pub mod RankLemmas
+pub mod NumberEntries
 pub mod Ties
 pub mod OneRow
 pub mod SortedOrderEntries

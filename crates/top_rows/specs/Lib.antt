@@ -5,6 +5,8 @@ pub mod InlineKeys
 pub mod EntryOrder
 pub mod Ties
 pub mod Places
+pub mod NumberEntries
+pub mod EntryForms
 pub mod Keeping
 pub mod OrderParts
 pub mod SortedOrderEntries

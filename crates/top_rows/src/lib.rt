@@ -8,8 +8,11 @@
 mod entry;
 mod inline_kind;
 mod laws;
+mod number_key;
+mod number_pairs;
 mod ordered;
 mod parts;
+mod row_entries;
 mod sort_key;
 mod sort_key_list;
 #[cfg(test)]

@@ -11,8 +11,8 @@ ghost use Rattle.top_rows.specs.ViewOrder.{AreFirst, IsKeptFor};
 
 use crate::entry::OrderEntry;
 use crate::parts::OrderedParts;
+use crate::row_entries::RowEntries;
 use std::alloc::{AllocError, Global};
-use std::collections::BTreeSet;
 use std::marker::Model;
 use view_lang::{Change, OrderBy, RowChange, RowView, Upkeep};
 
@@ -21,7 +21,7 @@ use view_lang::{Change, OrderBy, RowChange, RowView, Upkeep};
 pub struct Ordered {
     alloc: Global,
     order: Vec<OrderBy>,
-    order_entries: BTreeSet<OrderEntry>,
+    order_entries: RowEntries,
 }
 
 impl Model for Ordered {
@@ -29,7 +29,7 @@ impl Model for Ordered {
 
     ghost Value = { OrderedEntries };
 
-    ghost view = { λ o. record { order = o.order.items; order_entries = o.order_entries.keys } };
+    ghost view = { λ o. record { order = o.order.items; order_entries = o.order_entries } };
 }
 
 impl Ordered {
@@ -44,7 +44,7 @@ impl Ordered {
         Ok(Ordered {
             alloc,
             order: columns,
-            order_entries: BTreeSet::new(alloc),
+            order_entries: RowEntries::new(alloc, order),
         })
     }
 
@@ -58,13 +58,10 @@ impl Ordered {
             order,
             order_entries,
         } = self;
-        let mut taken = Vec::with_capacity(alloc, order_entries.len())?;
-        for entry in order_entries {
-            taken.push(entry.into_parts()?)?;
-        }
+        order_entries.ascending_law();
         Ok(OrderedParts {
             order,
-            order_entries: taken,
+            order_entries: order_entries.into_parts(alloc)?,
         })
     }
 
@@ -77,9 +74,9 @@ impl Ordered {
             order,
             order_entries,
         } = parts;
-        let mut placed = BTreeSet::new(alloc);
+        let mut placed = RowEntries::new(alloc, &order);
         for entry in order_entries {
-            placed.insert(OrderEntry::from_parts(alloc, entry))?;
+            placed.insert_entry(alloc, OrderEntry::from_parts(alloc, entry))?;
         }
         Ok(Ordered {
             alloc,
@@ -95,8 +92,8 @@ impl Ordered {
             ≡ cond (is_entry self.old.order number (R.cells row.now) p) true (stands self.old.order_entries p)) }
         ensures err { OnErr result (self.new ≡ self.old) }
     {
-        let entry = OrderEntry::of(self.alloc, self.order.as_slice(), number, row)?;
-        self.order_entries.insert(entry)?;
+        self.order_entries
+            .insert(self.alloc, self.order.as_slice(), number, row)?;
         Ok(())
     }
 
@@ -107,8 +104,9 @@ impl Ordered {
             ≡ cond (is_entry self.old.order number (R.cells row.now) p) false (stands self.old.order_entries p)) }
         ensures err { OnErr result (self.new ≡ self.old) }
     {
-        let entry = OrderEntry::of(self.alloc, self.order.as_slice(), number, row)?;
-        let _there = self.order_entries.remove(&entry);
+        self.order_entries.ascending_law();
+        self.order_entries
+            .remove(self.alloc, self.order.as_slice(), number, row)?;
         Ok(())
     }
 
@@ -176,14 +174,8 @@ impl Ordered {
         ensures numbers { IfOk result (λ numbers.
             numbers.items ≡ map (λ (p : RowEntry). p.1) (take most self.now.order_entries)) }
     {
-        let _size = self.order_entries.len();
-        let mut numbers = Vec::new(alloc);
-        for entry in self.order_entries.iter() {
-            if numbers.len() == most {
-                break;
-            }
-            numbers.push(entry.number())?;
-        }
+        self.order_entries.ascending_law();
+        let numbers = self.order_entries.first(alloc, most)?;
         Ok(numbers)
     }
 

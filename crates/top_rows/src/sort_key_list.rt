@@ -184,7 +184,8 @@ impl SortKeyList {
         }
     }
 
-    fn of_one(alloc: Global, first: SortKey) -> SortKeyList
+    /// The list of one sort key.
+    pub(crate) fn of_one(alloc: Global, first: SortKey) -> SortKeyList
         ensures { result ≡ first ∷ [] }
     {
         let (first_kind, first) = parted(first);

@@ -76,6 +76,47 @@ fn follows_rows_that_come_and_go(rt: HostRuntime) -> Result<(), Fail> {
     Ok(())
 }
 
+/// The first rows of an order by numbers of 64 bits and a null in this direction; with a number of more bits; and without
+/// that one and a row with the least.
+fn first_of_numbers(alloc: Global, direction: Direction) -> Result<[Vec<usize>; 3], AllocError> {
+    let mut ordered = Ordered::new(
+        alloc,
+        &[OrderBy {
+            column: 0,
+            direction,
+        }],
+    )?;
+    let least = row(alloc, Kind::Int(i64::MIN as i128))?;
+    let greatest = row(alloc, Kind::Int(i64::MAX as i128))?;
+    let beyond = row(alloc, Kind::Int(i64::MAX as i128 + 1))?;
+    ordered.come(1, &greatest.as_slice())?;
+    ordered.come(2, &least.as_slice())?;
+    ordered.come(0, &row(alloc, Kind::Int(-1))?.as_slice())?;
+    ordered.come(4, &row(alloc, Kind::Int(0))?.as_slice())?;
+    ordered.come(6, &row(alloc, Kind::Null)?.as_slice())?;
+    ordered.come(3, &least.as_slice())?;
+    let pairs = ordered.first(alloc, 6)?;
+    ordered.come(5, &beyond.as_slice())?;
+    let entries = ordered.first(alloc, 9)?;
+    ordered.go(5, &beyond.as_slice())?;
+    ordered.go(2, &least.as_slice())?;
+    let left = ordered.first(alloc, 3)?;
+    Ok([pairs, entries, left])
+}
+
+#[test]
+fn orders_numbers_of_64_bits_and_others(rt: HostRuntime) -> Result<(), Fail> {
+    let [pairs, entries, left] = first_of_numbers(rt.alloc(), Direction::Ascending)?;
+    assert_eq!(rt; pairs.as_slice(), [2, 3, 0, 4, 1, 6].as_slice());
+    assert_eq!(rt; entries.as_slice(), [2, 3, 0, 4, 1, 5, 6].as_slice());
+    assert_eq!(rt; left.as_slice(), [3, 0, 4].as_slice());
+    let [pairs, entries, left] = first_of_numbers(rt.alloc(), Direction::Descending)?;
+    assert_eq!(rt; pairs.as_slice(), [1, 4, 0, 2, 3, 6].as_slice());
+    assert_eq!(rt; entries.as_slice(), [5, 1, 4, 0, 2, 3, 6].as_slice());
+    assert_eq!(rt; left.as_slice(), [1, 4, 0].as_slice());
+    Ok(())
+}
+
 #[test]
 fn follows_an_order_of_two_columns(rt: HostRuntime) -> Result<(), Fail> {
     let rising = OrderBy {

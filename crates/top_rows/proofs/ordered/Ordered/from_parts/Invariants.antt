@@ -4,4 +4,4 @@ use Rattle.top_rows.proofs.ordered.Ordered.from_parts.Given as goal
 
 abbrev pub invariant-loop-entry : goal.invariant-loop-entry
 invariant-loop-entry l =
-    l.placed.keys ++ map entry_with l.entry-iterator.rest.items ≡ map entry_with l.fn.parts.order_entries.items
+    l.placed ++ map entry_with l.entry-iterator.rest.items ≡ map entry_with l.fn.parts.order_entries.items

@@ -1,6 +1,0 @@
-use Rattle.std.proofs.Common.{◌≡◌, ◌++◌, map}
-use Rattle.top_rows.specs.OrderParts.{entry_with}
-use Rattle.top_rows.proofs.ordered.Ordered.into_parts.Given as goal
-
-abbrev pub invariant-loop-entry : goal.invariant-loop-entry
-invariant-loop-entry l = map entry_with l.taken.items ++ l.entry-iterator ≡ l.fn.self.order_entries
