@@ -19,6 +19,7 @@ pub mod GroupLaw
 pub mod AccumulatedColumns
 pub mod AggregateCases
 pub mod FewValues
+pub mod Numbers
 pub mod OneValue
 pub mod Poured
 pub mod Present

@@ -16,6 +16,7 @@ pub mod Seen
 pub mod Touched
 pub mod TupleKeys
 pub mod FewValues
+pub mod Numbers
 pub mod OneValue
 pub mod Multisets
 pub mod Moves

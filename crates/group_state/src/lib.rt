@@ -14,6 +14,7 @@ mod group;
 mod group_reader;
 mod group_row;
 mod groups;
+mod many_numbers;
 mod many_values;
 mod multiset;
 mod one_value;

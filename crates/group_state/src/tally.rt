@@ -1,10 +1,8 @@
 //! Tallies of the cells of one column of a group.
 
 ghost use Rattle.std.specs.Prelude.{◌≡◌, ◌<◌, ◌∷◌, ◌++◌, ◌+◌, List, OnOk, IfOk, length};
-ghost use Rattle.std.proofs.Common.{option_map};
 ghost use Rattle.values.specs.CellViews.{shallow, viewed};
 ghost use Rattle.values.specs.Datum.{Datum};
-ghost use Rattle.group_state.specs.Keys.{datum_in};
 ghost use Rattle.group_state.specs.Cells.{KeepsCells, KeepsValues, fresh};
 ghost use Rattle.group_state.specs.GroupParts.{IsTally, tally_with};
 ghost use Rattle.group_state.specs.Seen.{seen_count, seen_distinct, seen_greatest, seen_least, seen_sum};
@@ -19,7 +17,7 @@ use crate::parts::TallyParts;
 use crate::row_cells::filled_key_at;
 use crate::total::Total;
 use std::alloc::{AllocError, Global};
-use values::{CellView, Key, Value};
+use values::{CellView, Value};
 use view_lang::RowView;
 
 /// What is stored for a column of a group, in one form.
@@ -101,7 +99,7 @@ impl Tally {
     {
         match self {
             Tally::Total(_) => Ok(no_value()),
-            Tally::Values(values) => Ok(value_of(alloc, values.least())?),
+            Tally::Values(values) => values.least_value(alloc),
         }
     }
 
@@ -111,7 +109,7 @@ impl Tally {
     {
         match self {
             Tally::Total(_) => Ok(no_value()),
-            Tally::Values(values) => Ok(value_of(alloc, values.greatest())?),
+            Tally::Values(values) => values.greatest_value(alloc),
         }
     }
 
@@ -151,7 +149,7 @@ impl Tally {
     {
         match self {
             Tally::Total(_) => CellView::Null,
-            Tally::Values(values) => view_of(values.least()),
+            Tally::Values(values) => values.view_least(),
         }
     }
 
@@ -161,7 +159,7 @@ impl Tally {
     {
         match self {
             Tally::Total(_) => CellView::Null,
-            Tally::Values(values) => view_of(values.greatest()),
+            Tally::Values(values) => values.view_greatest(),
         }
     }
 
@@ -297,24 +295,4 @@ fn remove_value<R: RowView>(
         let _size = values.count_distinct();
     }
     Ok(())
-}
-
-/// The value where it lies; null where there is none.
-fn view_of<'a>(key: Option<&'a Key>) -> CellView<'a>
-    ensures { viewed result ≡ shallow (datum_in (option_map (λ k. k.now) key.entry)) }
-{
-    match key {
-        Some(key) => key.view(),
-        None => CellView::Null,
-    }
-}
-
-/// A copy of the value; null where there is none.
-fn value_of(alloc: Global, key: Option<&Key>) -> Result<Value, AllocError>
-    ensures { IfOk result (λ cell. cell ≡ datum_in (option_map (λ k. k.now) key.entry)) }
-{
-    match key {
-        Some(key) => key.value(alloc),
-        None => Ok(no_value()),
-    }
 }

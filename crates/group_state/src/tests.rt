@@ -1,16 +1,20 @@
 //! Groups of a few rows, kept current through a change of them.
 
-ghost use Rattle.std.specs.Prelude.{◌≡◌, ◌++◌, ◌∷◌, [], IfOk, None, OnOk, Some};
+ghost use Rattle.std.specs.Prelude.{◌≡◌, ◌<◌, ◌++◌, ◌∷◌, [], IfOk, None, OnOk, Some, length};
 ghost use Rattle.view_lang.specs.Shifts.{shift};
+ghost use Rattle.values.specs.declared.key.Key.{Key};
+ghost use Rattle.group_state.specs.Counts.{had};
 ghost use Rattle.group_state.specs.Groups.{Keeps};
 ghost use Rattle.group_state.specs.AccumulatedColumns.{counted, valued};
 ghost use Rattle.group_state.specs.Sample.{cell_of, row_of, sample_change};
 
+use crate::multiset::Multiset;
 use crate::{AccumulatedColumn, Groups, NoReader};
+use key_ranks::RankedKey;
 use std::alloc::{AllocError, Global};
 use std::cmp::Ordering;
 use std::test::Fail;
-use values::{Kind, Row, Value, cmp_values};
+use values::{CellView, Key, Kind, Row, Value, cmp_values};
 use view_lang::{Aggregate, Change, GroupOutput, RowChange, Upkeep};
 
 /// A number, or a null.
@@ -235,5 +239,105 @@ fn finds_tuples_under_values(rt: HostRuntime) -> Result<(), Fail> {
         return Err(Fail::from("not one tuple"));
     };
     assert_eq!(rt; sevens.len(), 1);
+    Ok(())
+}
+
+/// Twenty whole numbers of 64 bits.
+const NUMBERS: [i128; 20] = [
+    3,
+    -1,
+    4,
+    i64::MAX as i128,
+    -5,
+    9,
+    2,
+    -6,
+    i64::MIN as i128,
+    8,
+    -3,
+    1,
+    0,
+    -4,
+    7,
+    -2,
+    6,
+    5,
+    -8,
+    -7,
+];
+
+/// The multiset of these numbers.
+fn multiset_of(alloc: Global, numbers: &[i128]) -> Result<Multiset, AllocError>
+    requires { length numbers.now < 100 }
+    ensures { IfOk result (λ values. (q : Key) → had values q < 100) }
+{
+    let mut values = Multiset::new();
+    for number in numbers {
+        values.add(alloc, RankedKey::new(Key::Int(*number)))?;
+    }
+    Ok(values)
+}
+
+/// Each of these numbers is removed once.
+fn remove_each(values: &mut Multiset, numbers: &[i128]) {
+    for number in numbers {
+        let key = RankedKey::new(Key::Int(*number));
+        values.remove(&key);
+    }
+}
+
+fn is_number(cell: CellView<'_>, number: i128) -> bool {
+    match cell {
+        CellView::Int(shown) => shown == number,
+        _ => false,
+    }
+}
+
+#[test]
+fn keeps_many_numbers(rt: HostRuntime) -> Result<(), Fail> {
+    let mut values = multiset_of(rt.alloc(), &NUMBERS)?;
+    let others = multiset_of(rt.alloc(), &NUMBERS)?;
+    values.take_in(rt.alloc(), &others)?;
+    assert_eq!(rt; values.count_distinct(), 20);
+    assert!(rt; is_number(values.view_least(), i64::MIN as i128));
+    assert!(rt; is_number(values.view_greatest(), i64::MAX as i128));
+    remove_each(&mut values, &NUMBERS);
+    assert_eq!(rt; values.count_distinct(), 20);
+    values.give_up(&others);
+    assert_eq!(rt; values.count_distinct(), 0);
+    assert!(rt; values.view_least().is_null());
+    assert!(rt; values.view_greatest().is_null());
+    Ok(())
+}
+
+#[test]
+fn widens_many_numbers_for_a_longer_one(rt: HostRuntime) -> Result<(), Fail> {
+    let longer = RankedKey::new(Key::Int(1 << 70));
+    let mut values = multiset_of(rt.alloc(), &NUMBERS)?;
+    values.remove(&longer);
+    assert_eq!(rt; values.count_distinct(), 20);
+    values.add(rt.alloc(), longer.copy(rt.alloc())?)?;
+    assert_eq!(rt; values.count_distinct(), 21);
+    assert!(rt; is_number(values.view_least(), i64::MIN as i128));
+    assert!(rt; is_number(values.view_greatest(), 1 << 70));
+    remove_each(&mut values, &NUMBERS);
+    assert_eq!(rt; values.count_distinct(), 1);
+    assert!(rt; is_number(values.view_least(), 1 << 70));
+    values.remove(&longer);
+    assert_eq!(rt; values.count_distinct(), 0);
+    Ok(())
+}
+
+#[test]
+fn widens_many_numbers_for_a_null(rt: HostRuntime) -> Result<(), Fail> {
+    let mut values = multiset_of(rt.alloc(), &NUMBERS)?;
+    values.add(rt.alloc(), RankedKey::new(Key::Null))?;
+    let least = values.least_value(rt.alloc())?;
+    let greatest = values.greatest_value(rt.alloc())?;
+    assert_eq!(rt; values.count_distinct(), 21);
+    assert!(rt; is_number(least.view(), i64::MIN as i128));
+    assert!(rt; greatest.view().is_null());
+    let parts = values.into_parts(rt.alloc())?;
+    assert_eq!(rt; parts.counts.len(), 21);
     Ok(())
 }
