@@ -40,12 +40,12 @@ enum Output<F> {
     Standard,
 }
 
-/// A file that is read. A file has its buffer in itself, and a box is moved without it.
+/// A file that is read. Its buffer is a part of it, and a box is moved without that.
 #[derive(Drop)]
 pub enum Source<F, I> {
     File(Box<F>),
     /// Standard input.
-    Standard(I),
+    Standard(Box<I>),
 }
 
 impl<F: Read, I: Read> Read for Source<F, I> {
@@ -152,10 +152,13 @@ impl<'a, R: std::rt::Files + Input + Print + Eprint + Clock + AllocGlobal> Files
         path: &str,
     ) -> Result<Tracked<'a, R, Source<R::File, R::Reader>>, FileFault> {
         if path == STANDARD {
-            return Ok(Tracked {
-                source: Source::Standard(self.runtime.reader()),
-                progress: self.progress(),
-            });
+            return match Box::new(self.runtime.alloc(), self.runtime.reader()) {
+                Ok(input) => Ok(Tracked {
+                    source: Source::Standard(input),
+                    progress: self.progress(),
+                }),
+                Err(_) => Err(FileFault::Memory),
+            };
         }
         match fs::open(self.runtime, path) {
             Ok(file) => {
