@@ -26,5 +26,6 @@ pub mod Present
 pub mod SampleFits
 pub mod Taken
 pub mod Totals
+pub mod TupleRanks
 pub mod Touched
 pub mod Under

@@ -1,6 +1,8 @@
 -- What contracts see of a tuple.
-use Rattle.std.specs.Prelude.{List, [], ◌∷◌}
+use Rattle.std.specs.Prelude.{◌≡◌, ℕ, List, [], ◌∷◌}
 use Rattle.values.specs.declared.key.Key.{Key}
+use Rattle.values.specs.Keys.{datum_of_key}
+use Rattle.key_ranks.specs.Ranks.{IsCellRank}
 use Rattle.group_state.specs.declared.tuple.TupleKeys.{TupleKeys}
 use Rattle.group_state.specs.declared.tuple.TupleKeys.TheVariants.{One, Many}
 
@@ -8,3 +10,8 @@ use Rattle.group_state.specs.declared.tuple.TupleKeys.TheVariants.{One, Many}
 abbrev pub keys_in : TupleKeys → List Key
 keys_in (One k) = k ∷ []
 keys_in (Many ks) = ks.items
+
+-- The rank of a tuple is that of its first key, or 0 where it has none.
+abbrev pub IsTupleRank : List Key → ℕ → Type 0
+IsTupleRank [] r = r ≡ 0
+IsTupleRank (k ∷ ks) r = IsCellRank (datum_of_key k) r

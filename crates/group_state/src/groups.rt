@@ -75,7 +75,6 @@ use crate::group_row::GroupRow;
 use crate::parts::GroupsParts;
 use crate::reading::{read_first, read_row, read_rows};
 use crate::tuple::Tuple;
-use key_ranks::RankedKey;
 use std::alloc::{AllocError, Global};
 use std::collections::{BTreeMap, BTreeSet};
 use std::marker::Model;
@@ -300,7 +299,7 @@ impl Groups {
             ≡ (is_tuple_among t tuples.old.keys || (begins_with first.now t && is_tuple_among t
             (keys_of self.now.groups)))) }
     {
-        let start = Tuple::one(RankedKey::new(first.copy(self.alloc)?));
+        let start = Tuple::one(first.copy(self.alloc)?);
         for (tuple, _group) in self.groups.range(&start..) {
             if !tuple.begins_with(first) {
                 break;

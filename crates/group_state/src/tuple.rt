@@ -1,45 +1,50 @@
 //! Grouping tuples.
 
-ghost use Rattle.std.specs.Prelude.{◌≡◌, ◌∷◌, All, IfOk, [], length};
+ghost use Rattle.std.specs.Prelude.{◌≡◌, ◌≤◌, ◌∷◌, All, IfOk, MatchOption, [], Some, length, slice_get};
 ghost use Rattle.values.specs.CellViews.{shallow, viewed};
 ghost use Rattle.view_lang.specs.Cells.{cell_at};
 ghost use Rattle.group_state.specs.Moves.{begins_with};
-ghost use Rattle.group_state.specs.Keys.{data_of, key_in};
+ghost use Rattle.group_state.specs.Keys.{data_of, key_in, tuple_cmp};
 ghost use Rattle.group_state.specs.Rows.{cell};
+ghost use Rattle.group_state.specs.TupleKeys.{IsTupleRank, keys_in};
 ghost use Rattle.group_state.specs.Tuples.{tuple_of};
 
 use crate::cells::no_value;
 use crate::row_cells::key_at;
-use key_ranks::RankedKey;
+use key_ranks::{RankedKey, key_rank};
 use std::alloc::{AllocError, Global};
 use std::cmp::Ordering;
 use std::marker::Model;
-use std::slice;
 use values::{CellView, Key, Value};
 use view_lang::RowView;
 
 /// One key inline, or any number of them in one allocation.
 #[derive(Debug, Drop)]
 enum TupleKeys {
-    One(RankedKey),
+    One(Key),
     Many(Vec<RankedKey>),
 }
 
-/// A grouping tuple: the keys of a row's cells in the grouping columns, in order. That of one column takes no memory
-/// but what its key takes. Contracts see the list of keys.
+/// A grouping tuple: the keys of a row's cells in the grouping columns, in order, with the rank of the first, by which
+/// most tuples are told apart. That of one column takes no memory but what its key takes. Contracts see the list of
+/// keys.
 #[derive(Debug, Drop)]
 pub struct Tuple {
+    /// The rank of the first key; 0 where there is none.
+    rank: u64,
     keys: TupleKeys,
 }
 
 impl Model for Tuple {
-    ghost use Rattle.group_state.specs.TupleKeys.{keys_in};
+    ghost use Rattle.group_state.specs.TupleKeys.{IsTupleRank, keys_in};
     ghost use Rattle.std.specs.Prelude.{List};
     ghost use Rattle.values.specs.declared.key.Key.{Key};
 
     ghost Value = { List Key };
 
     ghost view = { λ t. keys_in t.keys };
+
+    ghost invariant = { λ t. IsTupleRank (keys_in t.keys) t.rank };
 }
 
 impl PartialEq for Tuple {
@@ -90,9 +95,9 @@ impl Ord for Tuple {
     ghost matches_eq = { λ x y. refl };
 
     fn cmp(&self, other: &Tuple) -> Ordering {
-        match (&self.keys, &other.keys) {
-            (TupleKeys::One(key), TupleKeys::One(other)) => key.cmp(other),
-            _ => self.keys().cmp(&other.keys()),
+        match self.rank.cmp(&other.rank) {
+            Ordering::Equal => cmp_keys(&self.keys, &other.keys),
+            unlike => unlike,
         }
     }
 }
@@ -111,7 +116,7 @@ impl Tuple {
         };
         if others.is_empty() {
             let key = key_or_null(alloc, row, *first)?;
-            return Ok(Tuple::one(RankedKey::new(key)));
+            return Ok(Tuple::one(key));
         }
         let keys = each_key(alloc, columns, row)?;
         Ok(Tuple::many(keys))
@@ -122,7 +127,7 @@ impl Tuple {
         ensures { IfOk result (λ keys. keys.items ≡ self) }
     {
         match self.keys {
-            TupleKeys::One(key) => Ok(Vec::from_array(alloc, [key.into_key()])?),
+            TupleKeys::One(key) => Ok(Vec::from_array(alloc, [key])?),
             TupleKeys::Many(keys) => Ok(keys_of(alloc, keys)?),
         }
     }
@@ -135,26 +140,31 @@ impl Tuple {
         if others.len() != 1 {
             return Ok(Tuple::many(ranked(alloc, others)?));
         }
-        Ok(Tuple::one(RankedKey::new(others.remove(0))))
+        Ok(Tuple::one(others.remove(0)))
     }
 
     /// A copy of it.
     pub fn copy(&self, alloc: Global) -> Result<Tuple, AllocError>
         ensures { IfOk result (λ t. t ≡ self.now) }
     {
-        match &self.keys {
-            TupleKeys::One(key) => Ok(Tuple::one(key.copy(alloc)?)),
-            TupleKeys::Many(keys) => Ok(Tuple::many(copies_of(alloc, keys.as_slice())?)),
-        }
+        let keys = match &self.keys {
+            TupleKeys::One(key) => TupleKeys::One(key.copy(alloc)?),
+            TupleKeys::Many(keys) => TupleKeys::Many(copies_of(alloc, keys.as_slice())?),
+        };
+        Ok(Tuple {
+            rank: self.rank,
+            keys,
+        })
     }
 
-    /// Its keys.
-    fn keys(&self) -> &[RankedKey]
-        ensures { result.now ≡ self.now }
+    /// Key `k`, if there is one.
+    fn key(&self, k: usize) -> Option<&Key>
+        ensures { MatchOption result (length self.now ≤ k) (λ key. slice_get self.now k ≡ Some key.now) }
     {
         match &self.keys {
-            TupleKeys::One(key) => slice::from_ref(key),
-            TupleKeys::Many(keys) => keys.as_slice(),
+            TupleKeys::One(key) if k == 0 => Some(key),
+            TupleKeys::One(_) => None,
+            TupleKeys::Many(keys) => Some(keys.get(k)?.key()),
         }
     }
 
@@ -162,14 +172,18 @@ impl Tuple {
     pub fn len(&self) -> usize
         ensures { result ≡ length self.now }
     {
-        self.keys().len()
+        match &self.keys {
+            TupleKeys::One(_) => 1,
+            TupleKeys::Many(keys) => keys.len(),
+        }
     }
 
     /// The tuple of one column.
-    pub(crate) fn one(key: RankedKey) -> Tuple
+    pub(crate) fn one(key: Key) -> Tuple
         ensures { result ≡ key ∷ [] }
     {
         Tuple {
+            rank: key_rank(&key),
             keys: TupleKeys::One(key),
         }
     }
@@ -178,6 +192,7 @@ impl Tuple {
         ensures { result ≡ keys.items }
     {
         Tuple {
+            rank: first_rank(&keys),
             keys: TupleKeys::Many(keys),
         }
     }
@@ -186,8 +201,8 @@ impl Tuple {
     pub(crate) fn begins_with(&self, key: &Key) -> bool
         ensures { result ≡ begins_with key.now self.now }
     {
-        match self.keys().first() {
-            Some(first) => key.cmp(first.key()).is_eq(),
+        match self.key(0) {
+            Some(first) => key.cmp(first).is_eq(),
             None => false,
         }
     }
@@ -203,8 +218,8 @@ impl Tuple {
     pub fn view(&self, k: usize) -> CellView<'_>
         ensures { viewed result ≡ shallow (cell_at (data_of self.now) k) }
     {
-        match self.keys().get(k) {
-            Some(key) => key.key().view(),
+        match self.key(k) {
+            Some(key) => key.view(),
             None => CellView::Null,
         }
     }
@@ -213,10 +228,46 @@ impl Tuple {
     pub fn cell(&self, alloc: Global, k: usize) -> Result<Value, AllocError>
         ensures { IfOk result (λ cell. cell ≡ cell_at (data_of self.now) k) }
     {
-        match self.keys().get(k) {
-            Some(key) => Ok(key.key().value(alloc)?),
+        match self.key(k) {
+            Some(key) => Ok(key.value(alloc)?),
             None => Ok(no_value()),
         }
+    }
+}
+
+/// The rank of the first of these keys; 0 where there is none.
+fn first_rank(keys: &[RankedKey]) -> u64
+    ensures { IsTupleRank keys.now result }
+{
+    match keys.first() {
+        Some(first) => key_rank(first.key()),
+        None => 0,
+    }
+}
+
+/// Compares the tuple of one key with that of these.
+fn cmp_one(key: &Key, others: &[RankedKey]) -> Ordering
+    ensures { result ≡ tuple_cmp (key.now ∷ []) others.now }
+{
+    let Some((first, rest)) = others.split_first() else {
+        return Ordering::Greater;
+    };
+    match key.cmp(first.key()) {
+        Ordering::Equal if rest.is_empty() => Ordering::Equal,
+        Ordering::Equal => Ordering::Less,
+        unlike => unlike,
+    }
+}
+
+/// Compares tuples key by key.
+fn cmp_keys(keys: &TupleKeys, others: &TupleKeys) -> Ordering
+    ensures { result ≡ tuple_cmp (keys_in keys.now) (keys_in others.now) }
+{
+    match (keys, others) {
+        (TupleKeys::One(key), TupleKeys::One(other)) => key.cmp(other),
+        (TupleKeys::Many(keys), TupleKeys::Many(others)) => keys.cmp(others),
+        (TupleKeys::One(key), TupleKeys::Many(others)) => cmp_one(key, others),
+        (TupleKeys::Many(keys), TupleKeys::One(other)) => cmp_one(other, keys).reverse(),
     }
 }
 

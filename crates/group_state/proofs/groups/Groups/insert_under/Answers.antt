@@ -19,7 +19,7 @@ loop-tuple-init c =
     walks-first c.args.first.now c.args.self.now.groups c.into_iter-tuple-iterator.result c.args.tuples.now.keys
     (c.into_iter-tuple-iterator.ensures.into_iter_gives ∙ c.range-tuple-items.ensures.between tt
     ∙ ap (λ u. entries_between tuple_cmp (Included u) Unbounded c.self.inside.groups.entries)
-    (c.one-start.ensures ∙ ap (λ (k : Key). k ∷ []) (c.new.ensures ∙ c.in_ok-copy.ensures))
+    (c.one-start.ensures ∙ ap (λ (k : Key). k ∷ []) c.in_ok-copy.ensures)
     ∙ ap (λ (s : Grouped). between c.args.first.now s.groups) c.self.view_is)
     (subst (λ (s : Grouped). IsStrictlySortedBy tuple_cmp (keys_of s.groups)) c.self.view_is c.range-tuple-items.ensures.ordered)
 
