@@ -48,6 +48,16 @@ impl<'a> StoredRow<'a> {
         StoredRow { columns, index }
     }
 
+    /// The same row, borrowed once more.
+    pub fn again(&self) -> StoredRow<'a>
+        ensures { result ≡ self.now }
+    {
+        StoredRow {
+            columns: self.columns,
+            index: self.index,
+        }
+    }
+
     /// How many cells the row has.
     pub fn len(&self) -> usize
         ensures { result ≡ length self.now }

@@ -1,5 +1,5 @@
 -- Views that show each row of the main table in the order of row numbers.
-use Rattle.std.proofs.Common.{◌≡◌, ℕ, zero, suc, true, List, [], ◌∷◌, ◌++◌, Option, None, Some, map, replicate, take, refl, ap, ap₂, sym, subst, true≢false, ◌∙◌}
+use Rattle.std.proofs.Common.{◌≡◌, ℕ, zero, suc, true, List, [], ◌∷◌, ◌++◌, Option, None, Some, map, replicate, take, refl, ap, ap₂, sym, subst, true≢false, arith, ◌∙◌}
 use Rattle.std.specs.Cmp.{nat_cmp_total}
 use Rattle.std.specs.List.{AllByRecursion}
 use Rattle.std.specs.List.Sorted.{IsStrictlySortedBy}
@@ -31,8 +31,12 @@ use Rattle.top_rows.specs.OrderedEntries.{OrderedEntries}
 use Rattle.row_keys.specs.Numbered.{numbered}
 use Rattle.row_keys.specs.Slots.{Slot, live}
 use Rattle.upkeep.specs.Reading.{AreShown, IsReadable, LiveAreShown}
+use Rattle.upkeep.specs.Inputs.{side_by}
+use Rattle.upkeep.specs.Stores.{Rows}
 use Rattle.upkeep.specs.ViewStates.{
+  AreIdle,
   AreLinks,
+  EachIsCurrent,
   IsCurrent,
   IsMaterialized,
   IsMaterializedBy,
@@ -201,3 +205,17 @@ still_current tables v side s old new nothing current = λ fresh.
       still_live v s.kept (image (projected_row v side) old) (image (projected_row v side) new) nothing.0 was.0,
       (was.1.0, still_linked tables v s.kept s.links old new nothing.1 was.1.0 was.1.1),
     )
+
+-- views of which nothing is stored, or that are stale
+pub idle_current :
+    (tables : List Table) (rows : Rows) (old new : NumberedRows) (vs : List View) (ss : List ViewState)
+    → AreIdle vs ss → EachIsCurrent tables rows old vs ss → EachIsCurrent tables rows new vs ss
+idle_current tables rows old new [] [] idle each = each
+idle_current tables rows old new [] (s ∷ ss) idle each = each
+idle_current tables rows old new (v ∷ vs) [] idle each = each
+idle_current tables rows old new (v ∷ vs) (s ∷ ss) idle each = (
+  λ fresh. still_current tables v (side_by tables rows v) s old new (idle 0 v s (omega arith) refl refl fresh) each.0
+      fresh,
+  idle_current tables rows old new vs ss (λ k w u below at_w at_u. idle (suc k) w u (omega (arith, below)) at_w at_u)
+      each.1,
+)

@@ -1,6 +1,6 @@
 -- Rows that are inserted or deleted one by one.
 use Rattle.std.proofs.Common.{◌≡◌, ℕ, zero, suc, ◌+◌, ◌<◌, ◌≤◌, Bool, true, false, cond, List, [], ◌∷◌, Option, None, Some, get_or, length, map, take, refl, ap, sym, subst, ◌∙◌, arith, true≢false}
-use Rattle.std.specs.Prelude.{if◌then◌else◌, is_some, slice_set}
+use Rattle.std.specs.Prelude.{if◌then◌else◌, is_some}
 use Rattle.std.specs.BTreeMap.{insert_entry, is_at}
 use Rattle.std.specs.List.Sorted.{IsStrictlySortedBy}
 use Rattle.std.specs.Map.{keys_of, lookup, remove_entry}
@@ -22,9 +22,8 @@ use Rattle.view_lang.specs.declared.view.OrderBy.{OrderBy}
 use Rattle.top_rows.specs.Keeping.{Keeps as KeepsOrder}
 use Rattle.top_rows.specs.OrderedEntries.{OrderedEntries}
 use Rattle.row_keys.specs.Slots.{Slot, no_slot, row_of}
-use Rattle.row_keys.specs.Store.{Store, visited}
+use Rattle.row_keys.specs.Store.{Store}
 use Rattle.upkeep.specs.Inputs.{side_by}
-use Rattle.upkeep.specs.StoreLaws.{rows_there, set_same, tables_length}
 use Rattle.upkeep.specs.Stores.{Rows, rows_at, rows_in, tables_in}
 use Rattle.upkeep.specs.ViewStates.{
   IsMaterializedBy,
@@ -260,48 +259,22 @@ all_turned P Q t slots ns i past so_far rows fits before =
     subst (λ (ch : List Shift). Q (patched rows ch)) (take_all i (turned t slots ns) (omega (arith, past, many)))
     (so_far rows fits before)
 
--- A row of the main table that is visited
+-- A row of the main table
 
-module _ (stores now : List Store) (s s' read : Store) (v : View) (n visit : ℕ) (row : List Datum)
-    (is : s ≡ get_or stores 0 s) (main : 0 < length stores) (counted : s' ≡ visited 1 s)
-    (set : now ≡ slice_set stores 0 s') (at : read ≡ get_or now 0 read) (number : visit ≡ n)
-    (here : row ≡ row_of read.slots visit) where
-  now_tables : tables_in now ≡ tables_in stores
-  now_tables =
-      ap tables_in set
-      ∙ set_same (λ (x : Store). x.table) stores 0 s s' is (ap (λ (x : Store). x.table) counted)
-
-  now_rows : rows_in now ≡ rows_in stores
-  now_rows =
-      ap rows_in set ∙ set_same (λ (x : Store). x.slots) stores 0 s s' is (ap (λ (x : Store). x.slots) counted)
-
-  pub row_is : row ≡ row_of (rows_at (rows_in stores) 0) n
-  row_is =
-      let before = tables_length stores in
-      let after = tables_length now in
-      let same = ap length now_tables in
-      let below : 0 < length now = omega (arith, main, before, after, same) in
-      here ∙ ap (row_of read.slots) number
-      ∙ ap (λ (ss : List Slot). row_of ss n) (sym (rows_there now 0 read at below))
-      ∙ ap (λ (rs : Rows). row_of (rows_at rs 0) n) now_rows
-
-  pub made_of_visited : (t : Turn) → (t ≡ turn.Go → (get_or (rows_at (rows_in stores) 0) n no_slot).live ≡ true)
-      → turned_by t n (projected_row v (side_by (tables_in now) (rows_in now) v) row) ∷ []
+module _ (stores : List Store) (v : View) (n : ℕ) (row : List Datum)
+    (here : row ≡ row_of (rows_at (rows_in stores) 0) n) (t : Turn)
+    (live : t ≡ turn.Go → (get_or (rows_at (rows_in stores) 0) n no_slot).live ≡ true) where
+  pub made_of_row : turned_by t n (projected_row v (side_by (tables_in stores) (rows_in stores) v) row) ∷ []
       ≡ projected_change (tables_in stores) (rows_in stores) v t (n ∷ [])
-  made_of_visited t live =
-      let here : List Datum = row_of (rows_at (rows_in stores) 0) n in
-      ap (λ o. turned_by t n o ∷ [])
-      (ap (projected_row v (side_by (tables_in now) (rows_in now) v)) row_is
-      ∙ ap (λ (ts : List Table). projected_row v (side_by ts (rows_in now) v) here) now_tables
-      ∙ ap (λ (rs : Rows). projected_row v (side_by (tables_in stores) rs v) here) now_rows)
-      ∙ sym (live_change (projected_row v (side_by (tables_in stores) (rows_in stores) v)) (rows_at (rows_in stores) 0) n t
-      live)
+  made_of_row =
+      let make = projected_row v (side_by (tables_in stores) (rows_in stores) v) in
+      ap (λ r. turned_by t n (make r) ∷ []) here
+      ∙ sym (live_change make (rows_at (rows_in stores) 0) n t live)
 
-  pub link_of_visited : (l : Links) (t : Turn)
-      → (t ≡ turn.Go → (get_or (rows_at (rows_in stores) 0) n no_slot).live ≡ true)
+  pub link_of_row : (l : Links)
       → turned_by t n (link_row l v row) ∷ [] ≡ link_change (rows_at (rows_in stores) 0) l v t (n ∷ [])
-  link_of_visited l t live =
-      ap (λ r. turned_by t n (link_row l v r) ∷ []) row_is
+  link_of_row l =
+      ap (λ r. turned_by t n (link_row l v r) ∷ []) here
       ∙ sym (live_change (link_row l v) (rows_at (rows_in stores) 0) n t live)
 
 -- what is stored through a change, however the change is named

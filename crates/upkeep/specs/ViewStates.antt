@@ -5,6 +5,7 @@ use Rattle.std.specs.Prelude.{
   suc,
   true,
   false,
+  ◌<◌,
   ◌||◌,
   All,
   Bool,
@@ -14,6 +15,7 @@ use Rattle.std.specs.Prelude.{
   Option,
   None,
   Some,
+  get_or,
   length,
   map,
   nat_eq,
@@ -187,6 +189,14 @@ IsCurrentFor stores v s rows = IsCurrent (tables_in stores) v (side_from stores 
 
 abbrev pub AreCurrentFor : List Store → List View → List ViewState → NumberedRows → Type 0
 AreCurrentFor stores views states rows = EachIsCurrent (tables_in stores) (rows_in stores) rows views states
+
+-- The state is stale, or nothing is stored for the view's rows and links.
+abbrev pub IsIdle : View → ViewState → Type 0
+IsIdle v s = s.stale ≡ false → (s.kept ≡ kept.Live) × (v.lookup ≡ None)
+
+abbrev pub AreIdle : List View → List ViewState → Type 0
+AreIdle vs ss =
+    (k : ℕ) (v : View) (s : ViewState) → k < length vs → v ≡ get_or vs k v → s ≡ get_or ss k s → IsIdle v s
 
 -- the change at a number where a row is inserted, or deleted
 abbrev pub turned_by : Turn → ℕ → Option (List Datum) → Shift

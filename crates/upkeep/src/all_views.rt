@@ -2,20 +2,28 @@
 
 ghost use Rattle.std.specs.Prelude.{◌≡◌, ◌<◌, ◌≤◌, ◌+◌, ◌*◌, ◌∷◌, [], All, IfOk, List, OnErr, OnOk};
 ghost use Rattle.std.specs.Prelude.{count_by, false, length, map, slice_set, true};
-ghost use Rattle.row_keys.specs.Slots.{IsLiveAt, last_numbers};
+ghost use Rattle.row_keys.specs.Slots.{IsLiveAt, last_numbers, row_of};
 ghost use Rattle.view_lang.specs.Config.{Table};
 ghost use Rattle.view_lang.specs.Shifts.{NumberedRows};
 ghost use Rattle.upkeep.specs.Arrivals.{EachDescribes, last_rows, rows_of_numbers};
 ghost use Rattle.upkeep.specs.Following.{CanFollow, CanFollowMain, ViewsFollow};
 ghost use Rattle.upkeep.specs.LiveParts.{AreOf};
 ghost use Rattle.upkeep.specs.Stores.{HaveSameRows, Rows, main_slots, visits_in};
-ghost use Rattle.upkeep.specs.ViewStates.{AreCurrentFor, EachIsCurrent, stale_in, turned, turned_last, width_in};
+ghost use Rattle.upkeep.specs.ViewStates.{
+  AreCurrentFor,
+  AreIdle,
+  EachIsCurrent,
+  stale_in,
+  turned,
+  turned_last,
+  width_in,
+};
 ghost use Rattle.upkeep.specs.declared.view_state.Turn.TheVariants as turn_is;
 
 use crate::arrivals::{Arrival, arrival_at};
-use crate::follow::{follow, follow_one};
+use crate::follow::{follow, follow_one, is_followed, visit};
 use crate::view_state::{Turn, ViewState};
-use row_keys::RowStore;
+use row_keys::{RowStore, StoredRow};
 use std::alloc::{AllocError, Global};
 use values::KeyBuffer;
 use view_lang::View;
@@ -142,8 +150,59 @@ fn follow_all(
     }
 }
 
-/// Updates each view's state for the row of this number, which is inserted, or live and deleted. If memory is refused,
-/// the states are meaningless.
+/// Whether the state of one of these views is updated where rows are inserted or deleted.
+fn is_any_followed(views: &[View], states: &[ViewState]) -> bool
+    requires { length states.now ≡ length views.now }
+    ensures idle { result ≡ false → AreIdle views.now states.now }
+    ensures some { result ≡ true → 0 < length views.now }
+{
+    for place in 0..views.len() {
+        if is_followed(&views[place], &states[place]) {
+            return true;
+        }
+    }
+    false
+}
+
+/// Updates each view's state for this row, which has this number, and is inserted, or live and deleted. If memory is
+/// refused, the states are meaningless.
+fn follow_stored(
+    stores: &[RowStore],
+    views: &[View],
+    states: &mut Vec<ViewState>,
+    turn: Turn,
+    number: usize,
+    row: &StoredRow<'_>,
+    keys: &mut KeyBuffer,
+) -> Result<(), AllocError>
+    requires these { AreOf stores.now views.now }
+    requires alike { length states.old.items ≡ length views.now }
+    requires there { number < length (main_slots stores.now) }
+    requires row { row.now ≡ row_of (main_slots stores.now) number }
+    requires live { turn ≡ turn_is.Go → IsLiveAt (main_slots stores.now) number }
+    requires fits { CanFollow (AreCurrentFor stores.now views.now states.old.items)
+        (turned turn (main_slots stores.now) (number ∷ [])) }
+    ensures kept { OnOk result (ViewsFollow stores.now views.now states.old.items states.new.items
+        (turned turn (main_slots stores.now) (number ∷ []))) }
+    ensures stale { OnOk result (stale_in states.new.items ≡ stale_in states.old.items) }
+    ensures many { length states.new.items ≡ length states.old.items }
+{
+    for place in 0..views.len() {
+        follow_one(
+            stores,
+            &views[place],
+            &mut states[place],
+            turn,
+            number,
+            row,
+            keys,
+        )?;
+    }
+    Ok(())
+}
+
+/// Updates each view's state for the row of this number, which is inserted, or live and deleted. It is visited once,
+/// and not at all where no state is updated. If memory is refused, the states are meaningless.
 fn follow_row(
     stores: &mut Vec<RowStore>,
     views: &[View],
@@ -165,17 +224,12 @@ fn follow_row(
     ensures same_rows { HaveSameRows stores.old.items stores.new.items }
     ensures visits { visits_in stores.new.items ≤ visits_in stores.old.items + length views.now }
 {
-    for place in 0..views.len() {
-        follow_one(
-            stores,
-            &views[place],
-            &mut states[place],
-            turn,
-            number,
-            keys,
-        )?;
+    if !is_any_followed(views, states) {
+        return Ok(());
     }
-    Ok(())
+    let visit = visit(stores, number);
+    let row = stores[0].row(visit);
+    follow_stored(stores, views, states, turn, number, &row, keys)
 }
 
 /// Updates each view's state for the rows of these numbers, which are inserted, or live and deleted, row by row, so that

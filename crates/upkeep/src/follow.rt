@@ -30,6 +30,7 @@ ghost use Rattle.upkeep.specs.Stores.{HaveSameRows, main_slots, rows_in, tables_
 ghost use Rattle.upkeep.specs.ViewStates.{
   IsCurrentFor,
   IsDroppedLink,
+  IsIdle,
   IsMaterialized,
   KeepsLinks,
   columns_in,
@@ -46,7 +47,7 @@ use crate::arrivals::Arrival;
 use crate::inputs::join_row;
 use crate::turning::{turn_joined, turn_link, turn_referrer};
 use crate::view_state::{Links, Materialized, Turn, ViewState, materializes_nothing};
-use row_keys::{RowStore, StoredRow, numbers_law};
+use row_keys::{RowStore, StoredRow, Visit, numbers_law};
 use std::alloc::{AllocError, Global};
 use values::{KeyBuffer, Value};
 use view_lang::{View, image_law};
@@ -114,6 +115,55 @@ fn turn_dropped(
     }
 }
 
+/// Updates the state of a view for this row, which has this number, and is inserted, or live and deleted.
+fn turn_stored(
+    stores: &[RowStore],
+    view: &View,
+    state: &mut ViewState,
+    turn: Turn,
+    number: usize,
+    row: &StoredRow<'_>,
+    keys: &mut KeyBuffer,
+) -> Result<(), AllocError>
+    requires view { IsView (tables_in stores.now) view.now }
+    requires main { 0 < length stores.now }
+    requires there { number < length (main_slots stores.now) }
+    requires row { row.now ≡ row_of (main_slots stores.now) number }
+    requires live { turn ≡ turn_is.Go → (get_or (main_slots stores.now) number no_slot).live ≡ true }
+    requires fits { CanTurn (IsMaterialized view.now state.old.kept)
+        (projected_change (tables_in stores.now) (rows_in stores.now) view.now turn (number ∷ [])) }
+    requires links { CanTurn (KeepsLinks state.old.links)
+        (link_change (main_slots stores.now) state.old.links view.now turn (number ∷ [])) }
+    ensures kept { OnOk result (MaterializedFollows view.now state.old.kept state.new.kept
+        (projected_change (tables_in stores.now) (rows_in stores.now) view.now turn (number ∷ []))) }
+    ensures columns { OnOk result (columns_in state.new.kept ≡ columns_in state.old.kept) }
+    ensures links { OnOk result (LinksFollow state.old.links state.new.links
+        (link_change (main_slots stores.now) state.old.links view.now turn (number ∷ []))) }
+    ensures form { OnOk result (form_of state.new.links ≡ form_of state.old.links) }
+    ensures stale { state.new.stale ≡ state.old.stale }
+{
+    turn_link(&mut state.links, view, turn, number, row)?;
+    turn_main_row(
+        stores,
+        view,
+        &mut state.kept,
+        turn,
+        number,
+        row.again(),
+        keys,
+    )
+}
+
+/// Visits the row of this number of the main table.
+pub(crate) fn visit(stores: &mut Vec<RowStore>, number: usize) -> Visit
+    requires { 0 < length stores.old.items }
+    ensures number { result ≡ number }
+    ensures same_rows { HaveSameRows stores.old.items stores.new.items }
+    ensures counted { visits_in stores.new.items ≤ visits_in stores.old.items + 1 }
+{
+    stores[0].visit(number)
+}
+
 /// Updates the state of a view for the row of this number, which is inserted, or live and deleted. It is visited.
 fn turn_visited(
     stores: &mut Vec<RowStore>,
@@ -141,10 +191,9 @@ fn turn_visited(
     ensures same_rows { HaveSameRows stores.old.items stores.new.items }
     ensures visits { visits_in stores.new.items ≤ visits_in stores.old.items + 1 }
 {
-    let visit = stores[0].visit(number);
+    let visit = visit(stores, number);
     let row = stores[0].row(visit);
-    turn_link(&mut state.links, view, turn, number, &row)?;
-    turn_main_row(stores, view, &mut state.kept, turn, number, row, keys)
+    turn_stored(stores, view, state, turn, number, &row, keys)
 }
 
 /// Updates the state of a view for the row of this number, which is inserted or deleted as row `index` of a list. It
@@ -188,33 +237,42 @@ fn follow_number(
     turn_visited(stores, view, state, turn, number, keys)
 }
 
-/// Updates the state of a view for the row of this number, which is inserted, or live and deleted. A stale view is left
-/// as it is; after an error its state is meaningless.
+/// Whether the state of a view is updated where rows are inserted or deleted: it isn't stale, and something is stored
+/// for it.
+pub(crate) fn is_followed(view: &View, state: &ViewState) -> bool
+    ensures idle { result ≡ false → IsIdle view.now state.now }
+    ensures fresh { result ≡ true → state.now.stale ≡ false }
+{
+    !state.stale && !materializes_nothing(view, state)
+}
+
+/// Updates the state of a view for this row, which has this number, and is inserted, or live and deleted. A stale view
+/// is left as it is; after an error its state is meaningless.
 pub(crate) fn follow_one(
-    stores: &mut Vec<RowStore>,
+    stores: &[RowStore],
     view: &View,
     state: &mut ViewState,
     turn: Turn,
     number: usize,
+    row: &StoredRow<'_>,
     keys: &mut KeyBuffer,
 ) -> Result<(), AllocError>
-    requires view { IsView (tables_in stores.old.items) view.now }
-    requires main { 0 < length stores.old.items }
-    requires there { number < length (main_slots stores.old.items) }
-    requires live { turn ≡ turn_is.Go → (get_or (main_slots stores.old.items) number no_slot).live ≡ true }
-    requires fits { CanFollow (IsCurrentFor stores.old.items view.now state.old)
-        (turned turn (main_slots stores.old.items) (number ∷ [])) }
-    ensures kept { OnOk result (ViewFollows stores.old.items view.now state.old state.new
-        (turned turn (main_slots stores.old.items) (number ∷ []))) }
+    requires view { IsView (tables_in stores.now) view.now }
+    requires main { 0 < length stores.now }
+    requires there { number < length (main_slots stores.now) }
+    requires row { row.now ≡ row_of (main_slots stores.now) number }
+    requires live { turn ≡ turn_is.Go → (get_or (main_slots stores.now) number no_slot).live ≡ true }
+    requires fits { CanFollow (IsCurrentFor stores.now view.now state.old)
+        (turned turn (main_slots stores.now) (number ∷ [])) }
+    ensures kept { OnOk result (ViewFollows stores.now view.now state.old state.new
+        (turned turn (main_slots stores.now) (number ∷ []))) }
     ensures stale { state.new.stale ≡ state.old.stale }
-    ensures same_rows { HaveSameRows stores.old.items stores.new.items }
-    ensures visits { visits_in stores.new.items ≤ visits_in stores.old.items + 1 }
 {
     image_law();
-    if state.stale || materializes_nothing(view, state) {
+    if !is_followed(view, state) {
         return Ok(());
     }
-    turn_visited(stores, view, state, turn, number, keys)
+    turn_stored(stores, view, state, turn, number, row, keys)
 }
 
 /// Updates the state of a view for the rows of these numbers, which are inserted or deleted. Each is visited at most

@@ -1,41 +1,19 @@
-use Rattle.std.proofs.Common.{◌∙◌, ◌∷◌, [], arith}
-use Rattle.std.proofs.lemmas.List.{length-set}
+use Rattle.std.proofs.Common.{ap, subst, ◌∙◌}
 use Rattle.upkeep.specs.Stores.{rows_in, tables_in}
-use Rattle.upkeep.specs.StoreLaws.{set_same}
-use Rattle.upkeep.specs.declared.view_state.ViewState.{ViewState}
-use Rattle.upkeep.proofs.ChangedStores.{still_same}
-use Rattle.upkeep.proofs.FollowedViews.{all_followed, follow_fits, followed_more}
+use Rattle.upkeep.specs.ViewStates.{AreIdle}
+use Rattle.upkeep.proofs.ChangedStores.{still_of}
+use Rattle.upkeep.proofs.EachRow.{idle_current}
 use Rattle.upkeep.proofs.all_views.follow_row.Goals as goal
 
-pub follow_one-requires-clause-fits : goal.follow_one-requires-clause-fits
-follow_one-requires-clause-fits c =
-    let given = c.requires.fits in
-    follow_fits c.args.stores.now.items c.loop-place.stores.items given.0 _ c.args.turn (c.args.number ∷ [])
-    c.loop-place.place c.args.views.now c.loop-place.states.items c.index-views-place.result c.index_mut.result.now
-    c.loop-place.invariant.same_rows.tables c.loop-place.invariant.same_rows.rows
-    (c.loop-place.invariant.followed given.0 given.1.1.0 given.1.0) c.loop-place-test.true c.index-views-place.is
-    c.index_mut.ensures.value given.1.1.0 given.1.1.1
+pub returns-then-not-is_any_followed-clause-kept : goal.returns-then-not-is_any_followed-clause-kept
+returns-then-not-is_any_followed-clause-kept c = λ rows fits each.
+    idle_current (tables_in c.args.stores.now.items) (rows_in c.args.stores.now.items) rows _ c.args.views.now
+    c.args.states.now.items
+    (subst (AreIdle c.args.views.now) c.deref.ensures.value
+    (c.is_any_followed.ensures.idle c.if-not-is_any_followed.true))
+    each
 
-pub loop-place-preserved : goal.loop-place-preserved
-loop-place-preserved c = record {
-  followed = λ rows fits each.
-      followed_more c.args.stores.now.items c.loop-place.stores.items rows c.args.turn (c.args.number ∷ [])
-      c.loop-place.place c.args.views.now c.loop-place.states.items c.index-views-place.result c.index_mut.result.now
-      c.follow_one.new.state c.loop-place.invariant.same_rows.tables c.loop-place.invariant.same_rows.rows
-      (c.loop-place.invariant.followed rows fits each) c.loop-place-test.true c.index-views-place.is
-      c.index_mut.ensures.value c.in_ok-follow_one.ensures.kept fits;
-  stale =
-      set_same (λ (s : ViewState). s.stale) c.loop-place.states.items c.loop-place.place c.index_mut.result.now
-      c.follow_one.new.state c.index_mut.ensures.value c.follow_one.ensures.stale
-      ∙ c.loop-place.invariant.stale;
-  many =
-      length-set c.loop-place.states.items c.loop-place.place c.follow_one.new.state ∙ c.loop-place.invariant.many;
-  same_rows = still_same c.loop-place.invariant.same_rows c.follow_one.ensures.same_rows;
-  visits = omega (arith, c.loop-place.invariant.visits, c.follow_one.ensures.visits);
-}
-
-pub returns-clause-kept : goal.returns-clause-kept
-returns-clause-kept c = λ rows fits each.
-    all_followed (tables_in c.args.stores.now.items) (rows_in c.args.stores.now.items) rows _ c.loop-place.place
-    c.args.views.now c.loop-place.states.items (c.loop-place.invariant.followed rows fits each)
-    (omega (arith, c.loop-place-test.false))
+pub follow_stored-requires-clause-these : goal.follow_stored-requires-clause-these
+follow_stored-requires-clause-these c =
+    still_of c.args.stores.now.items c.deref-2.result.now c.args.views.now
+    (ap tables_in c.deref-2.ensures.value ∙ c.visit-visit.ensures.same_rows.tables) c.requires.these
