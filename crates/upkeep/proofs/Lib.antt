@@ -1,6 +1,7 @@
 pub mod InputRows
 pub mod JoinedCells
 pub mod RowByRow
+pub mod VisitedRows
 pub mod FollowedRows
 pub mod ChangedStores
 pub mod TypedRows

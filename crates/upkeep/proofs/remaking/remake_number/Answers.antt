@@ -9,8 +9,9 @@ use Rattle.upkeep.specs.SideRows.{side_of_rows, sided_cells}
 use Rattle.upkeep.specs.Stores.{rows_at, rows_in}
 use Rattle.upkeep.specs.ViewStates.{IsMaterialized}
 use Rattle.upkeep.proofs.FollowedLookups.{on_ok}
-use Rattle.upkeep.proofs.RowByRow.{row_is, same_change}
+use Rattle.upkeep.proofs.RowByRow.{same_change}
 use Rattle.upkeep.proofs.SidesByKey.{remade_one}
+use Rattle.upkeep.proofs.VisitedRows.{row_is}
 use Rattle.upkeep.proofs.remaking.remake_number.Goals as goal
 
 pub remake_row-requires : goal.remake_row-requires
@@ -18,7 +19,7 @@ remake_row-requires c =
     let v = c.args.view.now in
     let here = row_is c.args.stores.now.items
     (slice_set c.args.stores.now.items 0 c.visit-visit.new.self) c.index_mut.result.now c.visit-visit.new.self
-    c.index.result.now v c.args.number c.visit-visit.result c.row-row.result c.index_mut.ensures.value
+    c.index.result.now c.args.number c.visit-visit.result c.row-row.result c.index_mut.ensures.value
     c.requires.main c.visit-visit.ensures.counted refl c.index.ensures
     c.visit-visit.ensures.number c.row-row.ensures.row in
     let looks = ap (λ (x : View). x.lookup) c.view.view_is in
@@ -44,7 +45,7 @@ returns-clause-kept c =
     let v = c.args.view.now in
     let here = row_is c.args.stores.now.items
     (slice_set c.args.stores.now.items 0 c.visit-visit.new.self) c.index_mut.result.now c.visit-visit.new.self
-    c.index.result.now v c.args.number c.visit-visit.result c.row-row.result c.index_mut.ensures.value
+    c.index.result.now c.args.number c.visit-visit.result c.row-row.result c.index_mut.ensures.value
     c.requires.main c.visit-visit.ensures.counted refl c.index.ensures
     c.visit-visit.ensures.number c.row-row.ensures.row in
     let looks = ap (λ (x : View). x.lookup) c.view.view_is in
