@@ -34,6 +34,7 @@ use Rattle.std.proofs.Common.{
   append_assoc,
   length-append,
   length-drop,
+  length-take,
 }
 use Rattle.std.specs.Prelude.{Bool, ◌&&◌, if◌then◌else◌, map, not, replicate, slice_index, slice_range}
 use Rattle.std.specs.List.{flat_map}
@@ -206,6 +207,13 @@ slot-room l a i w s is =
     let next = next-place w i in
     omega (arith, room, next)
 
+pub fixed-long : (w : ℕ) (xs : List ℕ) (i : ℕ) → w * i + w ≤ length xs → length (fixed_at w xs i) ≡ w
+unfolding fixed_at
+fixed-long w xs i room =
+    let most = length-take ((w * i + w) - (w * i)) (drop (w * i) xs) in
+    let left = length-drop (w * i) xs in
+    omega (arith, most, left, room)
+
 pub slot-there : (l : Layout) (a : PlainArray) (i w : ℕ) → IsSlot l a i → w ≡ slot_width l
     → is_null a.bits.now i ≡ false
     → fixed_at w a.values.now i ≡ slot_bytes l (array_cell a i)
@@ -276,6 +284,16 @@ flat-next f xs ps i p made next total h n is =
     let rest = flat_map f (located_cells xs (drop (i + 1) ps)) in
     ap (λ bs. bs ++ rest) n ∙ append_assoc made (f (located_cell xs (get_or ps i p))) rest
     ∙ ap (λ qs. made ++ flat_map f (located_cells xs qs)) (sym (drop_more ps i p h)) ∙ is
+
+pub maps-next : {A : Type 0} (f : Datum → A) (xs : List (Option PlainArray)) (ps : List RowLocation) (i : ℕ)
+    (p : RowLocation) (made next total : List A) → i < length ps
+    → next ≡ made ++ f (located_cell xs (get_or ps i p)) ∷ []
+    → made ++ map f (located_cells xs (drop i ps)) ≡ total
+    → next ++ map f (located_cells xs (drop (i + 1) ps)) ≡ total
+maps-next f xs ps i p made next total h n is =
+    let rest = map f (located_cells xs (drop (i + 1) ps)) in
+    ap (λ bs. bs ++ rest) n ∙ append_assoc made (f (located_cell xs (get_or ps i p)) ∷ []) rest
+    ∙ ap (λ qs. made ++ map f (located_cells xs qs)) (sym (drop_more ps i p h)) ∙ is
 
 pub maps-end : {A : Type 0} (f : Datum → A) (xs : List (Option PlainArray)) (ps : List RowLocation) (i : ℕ)
     (made total : List A) → length ps ≤ i → made ++ map f (located_cells xs (drop i ps)) ≡ total → made ≡ total

@@ -15,7 +15,7 @@ ghost use Rattle.body_writer.specs.Locations.{Fits, IsTexts, located_cells};
 use crate::from_columns::slot_runs::slot_width;
 use crate::from_locations::location::RowLocation;
 use crate::from_locations::plain::PlainArray;
-use crate::from_locations::slots::{is_valid_at, push_slot_at, text_at, truth_at};
+use crate::from_locations::slots::{is_valid_at, push_slot_at, text_at, truth_at, word_at};
 use bitmaps::Bitmap;
 use std::alloc::{AllocError, Global};
 use values::Layout;
@@ -94,6 +94,40 @@ pub(crate) fn texts<'a>(
     Ok(texts)
 }
 
+/// The bytes of cells that take eight bytes each.
+fn words(
+    alloc: Global,
+    arrays: &[Option<PlainArray>],
+    locations: &[RowLocation],
+) -> Result<Vec<[u8; 8]>, AllocError>
+    requires { (l : Layouts) × All (Fits l arrays.now) locations.now × (8 ≡ slot_width l) }
+    ensures { IfOk result (λ words. (l : Layouts) → All (Fits l arrays.now) locations.now → 8 ≡ slot_width l
+        → words.items ≡ map (slot_bytes l) (located_cells arrays.now locations.now)) }
+{
+    let mut words = Vec::with_capacity(alloc, locations.len())?;
+    for place in locations {
+        words.push(word_at(arrays, place))?;
+    }
+    Ok(words)
+}
+
+/// Appends the bytes of cells that take eight bytes each. They are read in a loop that does nothing else, so that the
+/// processor has many of them under way at once.
+fn push_words(
+    alloc: Global,
+    out: &mut Vec<u8>,
+    arrays: &[Option<PlainArray>],
+    locations: &[RowLocation],
+) -> Result<(), AllocError>
+    requires { (l : Layouts) × All (Fits l arrays.now) locations.now × (8 ≡ slot_width l) }
+    ensures { OnOk result ((l : Layouts) → All (Fits l arrays.now) locations.now → 8 ≡ slot_width l
+        → out.new.items ≡ out.old.items ++ flat_map (slot_bytes l) (located_cells arrays.now locations.now)) }
+{
+    let words = words(alloc, arrays, locations)?;
+    out.extend_from_slice(words.as_flattened())?;
+    Ok(())
+}
+
 /// Appends the bytes of cells of a fixed width: each call has a loop of its own, in which the width may be constant.
 #[inline(always)]
 fn push_of_width(
@@ -114,6 +148,7 @@ fn push_of_width(
 
 /// Appends the bytes of cells of a fixed width: zeros for a null.
 pub(crate) fn push_slots(
+    alloc: Global,
     out: &mut Vec<u8>,
     layout: Layout,
     arrays: &[Option<PlainArray>],
@@ -125,7 +160,7 @@ pub(crate) fn push_slots(
 {
     match slot_width(layout) {
         4 => push_of_width(out, 4, arrays, locations),
-        8 => push_of_width(out, 8, arrays, locations),
+        8 => push_words(alloc, out, arrays, locations),
         width => push_of_width(out, width, arrays, locations),
     }
 }

@@ -82,6 +82,31 @@ pub(crate) fn text_at<'a>(
     }
 }
 
+/// The eight bytes of slot `i`: zeros for a null.
+#[inline(always)]
+fn word_in(array: &PlainArray, i: usize) -> [u8; 8]
+    requires { (l : Layouts) × IsSlot l array.now i × (8 ≡ slot_width l) }
+    ensures { (l : Layouts) → IsSlot l array.now i → 8 ≡ slot_width l → result ≡ slot_bytes l (array_cell array.now i) }
+{
+    if is_null_at(array.bits, i) {
+        return [0; 8];
+    }
+    *fixed(array.values, 8, i).as_array::<8>().unwrap()
+}
+
+/// The eight bytes of the slot at a location: zeros for a null, and where there is no array.
+#[inline(always)]
+pub(crate) fn word_at(arrays: &[Option<PlainArray>], place: &RowLocation) -> [u8; 8]
+    requires { (l : Layouts) × Fits l arrays.now place.now × (8 ≡ slot_width l) }
+    ensures { (l : Layouts) → Fits l arrays.now place.now → 8 ≡ slot_width l
+        → result ≡ slot_bytes l (located_cell arrays.now place.now) }
+{
+    match array_at(arrays, place) {
+        Some(array) => word_in(array, place.row),
+        None => [0; 8],
+    }
+}
+
 /// Appends the `width` bytes of slot `i`: zeros for a null.
 #[inline(always)]
 fn push_slot(

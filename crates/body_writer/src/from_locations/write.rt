@@ -80,6 +80,7 @@ fn write_validity(
 
 /// Appends the buffer of cells of a fixed width.
 fn append_slots(
+    alloc: Global,
     layout: Layout,
     arrays: &[Option<PlainArray>],
     locations: &[RowLocation],
@@ -92,7 +93,7 @@ fn append_slots(
     let from = body.bytes.len();
     body.bytes
         .reserve(slot_width(layout).saturating_mul(locations.len()))?;
-    push_slots(&mut body.bytes, layout, arrays, locations)?;
+    push_slots(alloc, &mut body.bytes, layout, arrays, locations)?;
     body.end_buffer(from)
 }
 
@@ -111,7 +112,7 @@ fn write_slots(
         (fixed_buffers layout (located_cells arrays.now locations.now))) }
 {
     write_validity(alloc, arrays, locations, body)?;
-    append_slots(layout, arrays, locations, body)
+    append_slots(alloc, layout, arrays, locations, body)
 }
 
 /// Appends the column of these bools.
