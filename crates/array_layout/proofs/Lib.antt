@@ -4,3 +4,4 @@ pub mod OffsetLemmas
 pub mod SoundLemmas
 pub mod NullRuns
 pub mod NumberLemmas
+mod FixedNumbers

@@ -37,16 +37,16 @@ pub fn is_null_at(bits: &[u8], i: usize) -> bool
 }
 
 /// The bits of number `i` as a number without a sign.
-#[tactic(auto, unfolding(crate::specs::Buffers::unsigned_at))]
+#[tactic(auto, using(crate::proofs::FixedNumbers::numbers), unfolding(crate::specs::Buffers::fixed_at, crate::specs::Buffers::unsigned_at))]
 fn unsigned_number(bytes: &[u8], width: IntWidth, i: usize) -> u64
     requires { bytes_in width * (i + 1) ≤ length bytes.now }
     ensures value { result ≡ unsigned_at (bytes_in width) bytes.now i }
 {
     match width {
         IntWidth::Bits8 => u64::from(bytes[i]),
-        IntWidth::Bits16 => u64::from(LittleEndian::read_u16(&bytes[2 * i..])),
-        IntWidth::Bits32 => u64::from(LittleEndian::read_u32(&bytes[4 * i..])),
-        IntWidth::Bits64 => LittleEndian::read_u64(&bytes[8 * i..]),
+        IntWidth::Bits16 => u64::from(LittleEndian::read_u16(fixed(bytes, 2, i))),
+        IntWidth::Bits32 => u64::from(LittleEndian::read_u32(fixed(bytes, 4, i))),
+        IntWidth::Bits64 => LittleEndian::read_u64(fixed(bytes, 8, i)),
     }
 }
 
@@ -100,20 +100,21 @@ pub fn decimal(bytes: &[u8], i: usize) -> i128
 #[tactic(auto, unfolding(crate::specs::Buffers::fixed_at))]
 pub fn fixed(bytes: &[u8], width: usize, i: usize) -> &[u8]
     requires { width * i + width ≤ length bytes.now }
-    ensures { result.now ≡ fixed_at width bytes.now i }
+    ensures value { result.now ≡ fixed_at width bytes.now i }
+    ensures size { length result.now ≡ width }
 {
     &bytes[width * i..width * i + width]
 }
 
 /// Offset `i`, read as a number without a sign.
-#[tactic(auto, unfolding(crate::specs::Buffers::offset_at, crate::specs::Buffers::unsigned_at))]
+#[tactic(auto, using(crate::proofs::FixedNumbers::numbers), unfolding(crate::specs::Buffers::fixed_at, crate::specs::Buffers::offset_at, crate::specs::Buffers::unsigned_at))]
 pub fn offset(offsets: &[u8], width: OffsetWidth, i: usize) -> usize
     requires { offset_bytes width * (i + 1) ≤ length offsets.now }
     ensures { result ≡ offset_at width offsets.now i }
 {
     match width {
-        OffsetWidth::Bits32 => LittleEndian::read_u32(&offsets[4 * i..]) as usize,
-        OffsetWidth::Bits64 => LittleEndian::read_u64(&offsets[8 * i..]) as usize,
+        OffsetWidth::Bits32 => LittleEndian::read_u32(fixed(offsets, 4, i)) as usize,
+        OffsetWidth::Bits64 => LittleEndian::read_u64(fixed(offsets, 8, i)) as usize,
     }
 }
 
