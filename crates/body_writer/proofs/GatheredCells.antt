@@ -207,13 +207,6 @@ slot-room l a i w s is =
     let next = next-place w i in
     omega (arith, room, next)
 
-pub fixed-long : (w : ℕ) (xs : List ℕ) (i : ℕ) → w * i + w ≤ length xs → length (fixed_at w xs i) ≡ w
-unfolding fixed_at
-fixed-long w xs i room =
-    let most = length-take ((w * i + w) - (w * i)) (drop (w * i) xs) in
-    let left = length-drop (w * i) xs in
-    omega (arith, most, left, room)
-
 pub slot-there : (l : Layout) (a : PlainArray) (i w : ℕ) → IsSlot l a i → w ≡ slot_width l
     → is_null a.bits.now i ≡ false
     → fixed_at w a.values.now i ≡ slot_bytes l (array_cell a i)

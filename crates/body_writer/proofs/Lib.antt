@@ -31,6 +31,7 @@ pub mod TextLemmas
 pub mod PickedLemmas
 pub mod GatheredCells
 pub mod LocatedColumns
+pub mod RowRuns
 pub mod LeafColumns
 pub mod WeighedRows
 pub mod BoundedRows

@@ -44,20 +44,19 @@ use Rattle.values.specs.declared.layout.Layout.{Layout}
 use Rattle.array_layout.specs.declared.array.ArrayData.{ArrayData}
 use Rattle.array_layout.specs.Cells.{cell, cells}
 use Rattle.arrays.specs.Checked.{CheckedColumn}
-use Rattle.schema_meta.specs.Rows.{row_at, rows_from}
+use Rattle.schema_meta.specs.Rows.{row_at}
 use Rattle.body_writer.specs.Batch.{row_cell, row_cells}
 use Rattle.body_writer.specs.Slots.{part}
 use Rattle.body_writer.specs.Runs.{cell_in, slots}
 use Rattle.body_writer.specs.Segments.{array_of}
-use Rattle.body_writer.specs.RowRanges.{HasColumn, IsSized, batch_rows, cells_in, range_rows}
+use Rattle.body_writer.specs.RowRanges.{IsSized, cells_in}
 use Rattle.body_writer.specs.Locations.{ArePlain, AreRowsOf, Fits, HasCells, HasCellsAt, HasRow, IsLocated, IsReady, IsSlot, IsWritable, cell_there, cells_at, column_cells, layout_of, located_cell, located_cells, located_row, row_in}
 use Rattle.body_writer.specs.declared.from_columns.batch.Batch.{Batch}
-use Rattle.body_writer.specs.declared.from_columns.batch.RowRange.{RowRange}
 use Rattle.body_writer.specs.declared.from_locations.location.RowLocation.{RowLocation}
 use Rattle.body_writer.specs.declared.from_locations.plain.PlainArray.{PlainArray}
 use Rattle.body_writer.specs.declared.from_locations.write.LocatedColumn.{LocatedColumn}
 use Rattle.body_writer.proofs.Cells.{listed-items_of, part-listed}
-use Rattle.body_writer.proofs.RowRangeLemmas.{cells-long, column-slots, rows-cut}
+use Rattle.body_writer.proofs.RowRangeLemmas.{cells-long, column-slots}
 
 -- one cell
 
@@ -166,45 +165,7 @@ pub all-fit : (l : Layout) (n j : ℕ) (bs : List (Bor Batch)) (xs : List (Optio
 all-fit l n j bs xs ps plain few h all =
     All-weaker (IsLocated n bs) (Fits l xs) (placed-fits l n j bs xs plain few h) ps all
 
--- a location as a range of one row
-
-pub one-row : (n : ℕ) (bs : List (Bor Batch)) (p : RowLocation) (batch : Bor Batch) (r : RowRange) → IsLocated n bs p
-    → slice_get bs p.batch ≡ Some batch → r.batch.now ≡ batch.now → r.from ≡ p.row → r.to ≡ p.row + 1
-    → range_rows r ≡ located_row bs p ∷ []
-unfolding rows_from
-one-row n bs p batch r placed there is from to =
-    let row = placed batch there in
-    let one : r.to - r.from ≡ 1 = omega (arith, from, to) in
-    let room : p.row + 1 ≤ batch.now.rows = omega (arith, row.within) in
-    ap (λ k. take k (drop r.from (batch_rows r.batch.now))) one
-    ∙ ap (λ k. take 1 (drop k (batch_rows r.batch.now))) from
-    ∙ ap (λ (b : Batch). take 1 (drop p.row (batch_rows b))) is
-    ∙ rows-cut (cells_in batch.now.columns.items) p.row 1 batch.now.rows room
-    ∙ ap (λ o. row_in o p.row ∷ []) (sym there)
-
-pub one-column : (n j : ℕ) (bs : List (Bor Batch)) (p : RowLocation) (batch : Bor Batch) (r : RowRange) → j < n
-    → IsLocated n bs p → slice_get bs p.batch ≡ Some batch → r.batch.now ≡ batch.now → r.from ≡ p.row
-    → r.to ≡ p.row + 1 → HasColumn j r
-one-column n j bs p batch r h placed there is from to =
-    let row = placed batch there in
-    let sized : IsSized n r.batch.now = subst (IsSized n) (sym is) row.sized in
-    let within : p.row + 1 ≤ batch.now.rows = omega (arith, row.within) in
-    record {
-      below = omega (arith, h, sized.columns);
-      cells = sized.cells;
-      order = omega (arith, from, to);
-      within = subst (λ (b : Batch). r.to ≤ b.rows) (sym is) (omega (arith, within, to));
-    }
-
--- the cells of one row
-pub one-cell : (n j : ℕ) (bs : List (Bor Batch)) (p : RowLocation) (batch : Bor Batch) (r : RowRange) → IsLocated n bs p
-    → slice_get bs p.batch ≡ Some batch → r.batch.now ≡ batch.now → r.from ≡ p.row → r.to ≡ p.row + 1
-    → map (part j) (row_cells (range_rows r)) ≡ get_or (located_row bs p) j null ∷ []
-one-cell n j bs p batch r placed there is from to =
-    ap (λ rows. map (part j) (row_cells rows)) (one-row n bs p batch r placed there is from to)
-    ∙ ap (λ d. d ∷ []) (part-listed j (located_row bs p))
-
--- the same cell, read from its column
+-- a cell, read from its column
 pub cell-read : (n j : ℕ) (bs : List (Bor Batch)) (p : RowLocation) (batch : Bor Batch) (c : CheckedColumn) → j < n
     → IsLocated n bs p → slice_get bs p.batch ≡ Some batch → c ≡ get_or batch.now.columns.items j c
     → get_or (located_row bs p) j null ≡ get_or c.cells p.row null

@@ -10,4 +10,5 @@ pub mod RowRanges
 pub mod Texts
 pub mod Picked
 pub mod Locations
+pub mod RowRuns
 pub mod Heavy

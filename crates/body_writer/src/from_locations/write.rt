@@ -172,7 +172,7 @@ fn write_copies(
     write_column_from_values(alloc, layout, &cells, body)
 }
 
-/// Appends column `j` of these rows, cell by cell.
+/// Appends column `j` of these rows, run by run.
 fn write_cells(
     alloc: Global,
     layout: &LayoutTree,
@@ -207,6 +207,36 @@ fn is_ready(arrays: &BatchArrays, layout: &LayoutTree) -> bool
     ensures { result ≡ true → IsReady layout.now arrays.now }
 {
     arrays.is_plain && arrays.layout == layout.layout && is_leaf(arrays.layout)
+}
+
+/// How many rows a run of consecutive rows has at least, on average, where cells are written run by run.
+const RUN_ROWS: usize = 16;
+
+/// Whether a row is the one after another in the same batch.
+fn follows(place: &RowLocation, before: &RowLocation) -> bool {
+    place.batch == before.batch && before.row.checked_add(1) == Some(place.row)
+}
+
+/// Whether rows at these locations lie in few runs of consecutive rows.
+fn are_in_runs(locations: &[RowLocation]) -> bool {
+    let mut turns = 0usize;
+    for i in 1..locations.len() {
+        if !follows(&locations[i], &locations[i - 1]) {
+            turns = RUN_ROWS.saturating_add(turns);
+            if turns > locations.len() {
+                return false;
+            }
+        }
+    }
+    true
+}
+
+/// Whether the cells are gathered one by one: the arrays are plain ones of this layout, without children, and the rows
+/// lie scattered.
+fn is_gathered(arrays: &BatchArrays, layout: &LayoutTree, locations: &[RowLocation]) -> bool
+    ensures { result ≡ true → IsReady layout.now arrays.now }
+{
+    is_ready(arrays, layout) && !are_in_runs(locations)
 }
 
 /// Appends the column of these cells, which have no children.
@@ -259,7 +289,7 @@ fn write_located(
         (buffers layout.now (column_cells column.now))) }
 {
     let arrays = column.arrays;
-    if is_ready(arrays, layout) {
+    if is_gathered(arrays, layout, column.rows.locations) {
         return write_gathered(alloc, layout, &arrays.arrays, column.rows.locations, body);
     }
     write_cells(alloc, layout, arrays.column, &column.rows, body)

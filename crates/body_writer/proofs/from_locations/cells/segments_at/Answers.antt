@@ -1,33 +1,43 @@
-use Rattle.std.proofs.Common.{◌++◌, ◌∙◌, All, ap, subst, sym}
-use Rattle.body_writer.specs.Segments.{HasWidth, OfSlots, segments_cells}
-use Rattle.body_writer.proofs.LocatedColumns.{cells-end, cells-step, placed-item}
-use Rattle.body_writer.proofs.RowRangeLemmas.{all-more, segments-more}
+use Rattle.std.proofs.Common.{List, ◌+◌, ap, subst, sym}
+use Rattle.body_writer.specs.declared.from_columns.segment.Segment.{Segment}
+use Rattle.body_writer.specs.declared.from_locations.cells.RowRun.{RowRun}
+use Rattle.body_writer.proofs.RowRuns.{RunSoFar, run-ends, run-grows, run-turns}
 use Rattle.body_writer.proofs.from_locations.cells.segments_at.Goals as goal
+use Rattle.body_writer.proofs.from_locations.cells.segments_at.Goals.{then-place-run+then-place-run-2, else-place-run+in_ok-push_run}
 
-pub segment_at-requires : goal.segment_at-requires
-segment_at-requires c =
-    let have = c.requires in (
-      have.width,
-      have.below,
-      placed-item have.width c.args.batches.now c.args.locations.now c.loop-place.place-index _
-          have.placed c.loop-place-test.true,
-    )
+pub push_run-requires : goal.push_run-requires
+push_run-requires c = record {
+  width = c.requires.width;
+  below = c.requires.below;
+  placed = c.loop-place.invariant.placed c.requires.width c.requires.placed;
+}
 
 pub loop-place-preserved : goal.loop-place-preserved
 loop-place-preserved c =
-    let made = c.loop-place.segments.items in
-    let segment = c.in_ok-segment_at.field-0 in
-    let pushed = c.in_ok-push.ensures.items in
-    record {
-      segments = subst (All (OfSlots HasWidth)) (sym pushed)
-          (all-more (OfSlots HasWidth) made segment c.loop-place.invariant.segments c.in_ok-segment_at.ensures.width);
-      cells = cells-step c.args.j c.args.batches.now c.args.locations.now c.loop-place.place-index _ (segments_cells made)
-          (segments_cells c.push.new.self.items) _ c.loop-place-test.true
-          (ap segments_cells pushed ∙ segments-more made segment
-          ∙ ap (λ cs. segments_cells made ++ cs) c.in_ok-segment_at.ensures.cell) c.loop-place.invariant.cells;
-    }
+    let l = c.loop-place in
+    let j = c.args.j in
+    let bs = c.args.batches.now in
+    let ps = c.args.locations.now in
+    let i = l.place-index in
+    let R : List Segment → RowRun → Type 0 = λ ss r. RunSoFar j bs ps (i + 1) ss r.batch r.from r.to in
+    elim c.if-place-run.branch [
+      | then-place-run+then-place-run-2 w ↦
+          subst (R c.if-place-run.segments.items) (sym w.run-is)
+          (subst (λ ss. R ss (record { batch = l.run.batch; from = l.run.from; to = c.in_ok-next.next }))
+          (sym (ap (λ v. v.items) w.segments-is))
+          (run-grows j bs ps i l.segments.items l.run.batch l.run.from l.run.to c.in_ok-next.next _ c.loop-place-test.true
+          w.if-place-run.true w.if-place-run-2.true c.in_ok-next.ensures l.invariant))
+      | else-place-run+in_ok-push_run w ↦
+          subst (R c.if-place-run.segments.items) (sym w.run-is)
+          (subst (λ ss. RunSoFar j bs ps (i + 1) ss _ _ c.in_ok-next.next) (sym (ap (λ v. v.items) w.segments-is))
+          (run-turns j bs ps i l.segments.items w.push_run.new.segments.items l.run.batch l.run.from l.run.to
+          c.in_ok-next.next _ c.loop-place-test.true c.in_ok-next.ensures w.in_ok-push_run.ensures.cells
+          w.in_ok-push_run.ensures.width l.invariant))
+    ]
 
-pub returns-clause-cells : goal.returns-clause-cells
-returns-clause-cells c =
-    cells-end c.args.j c.args.batches.now c.args.locations.now c.loop-place.place-index (segments_cells c.loop-place.segments.items) _
-    c.loop-place-test.false c.loop-place.invariant.cells
+pub push_run-requires-2 : goal.push_run-requires-2
+push_run-requires-2 c = record {
+  width = c.requires.width;
+  below = c.requires.below;
+  placed = c.loop-place.invariant.placed c.requires.width c.requires.placed;
+}

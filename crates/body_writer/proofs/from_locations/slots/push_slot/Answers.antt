@@ -18,5 +18,5 @@ pub returns : goal.returns
 returns c = λ l slot is.
     c.in_ok-extend_from_slice.ensures.items
     ∙ ap (λ bs. c.args.out.now.items ++ bs)
-    (c.fixed.ensures
+    (c.fixed.ensures.value
     ∙ slot-there l c.args.array.now c.args.i c.args.width slot is (sym c.is_null_at.ensures ∙ c.if-is_null_at.false))

@@ -1,7 +1,7 @@
-use Rattle.std.proofs.Common.{◌≢◌, ap, length, subst, sym, ◌∙◌}
+use Rattle.std.proofs.Common.{◌≢◌, length, subst, sym, ◌∙◌}
 use Rattle.std.specs.Option.{MatchOption}
 use Rattle.std.specs.Array.{IsWholeChunk}
-use Rattle.body_writer.proofs.GatheredCells.{fixed-long, slot-missing, slot-room, slot-there, slot-zeros}
+use Rattle.body_writer.proofs.GatheredCells.{slot-missing, slot-room, slot-there, slot-zeros}
 use Rattle.body_writer.proofs.from_locations.slots.word_in.Goals as goal
 
 pub returns-then-is_null_at : goal.returns-then-is_null_at
@@ -12,13 +12,11 @@ pub fixed-requires : goal.fixed-requires
 fixed-requires c = slot-room c.requires.0 c.args.array.now c.args.i 8 c.requires.1 c.requires.2
 
 pub unwrap-requires : goal.unwrap-requires
-unwrap-requires c =
-    let room = slot-room c.requires.0 c.args.array.now c.args.i 8 c.requires.1 c.requires.2 in
-    c.as_array.ensures.variant.1 (ap length c.fixed.ensures ∙ fixed-long 8 c.args.array.now.values.now c.args.i room)
+unwrap-requires c = c.as_array.ensures.variant.1 c.fixed.ensures.size
 
 pub returns : goal.returns
 returns c = λ l slot is.
     let whole = subst (λ o. MatchOption o (length c.fixed.result.now ≢ 8) (λ y. IsWholeChunk c.fixed.result.now y.now 8))
     c.unwrap.ensures c.as_array.ensures.cases in
-    whole.same ∙ c.fixed.ensures
+    whole.same ∙ c.fixed.ensures.value
     ∙ slot-there l c.args.array.now c.args.i 8 slot is (sym c.is_null_at.ensures ∙ c.if-is_null_at.false)
