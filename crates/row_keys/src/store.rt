@@ -576,6 +576,13 @@ impl RowStore {
         Visit::new(number)
     }
 
+    /// Looks for rows first where a visited row lies, from now on.
+    pub fn seek(&mut self, visit: &Visit)
+        ensures { self.new ≡ self.old }
+    {
+        self.rows.seek(visit.number());
+    }
+
     /// The row that is visited where it lies, live or retracted. A released row has no cells.
     pub fn row(&self, visit: Visit) -> StoredRow<'_>
         requires { visit < length self.now.slots }
