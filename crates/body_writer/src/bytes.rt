@@ -17,7 +17,6 @@ pub(crate) fn push_zeros(out: &mut Vec<u8>, count: usize) -> Result<(), AllocErr
 }
 
 /// Appends one offset.
-#[inline(always)]
 pub(crate) fn push_offset(
     out: &mut Vec<u8>,
     width: OffsetWidth,

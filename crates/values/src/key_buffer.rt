@@ -48,6 +48,10 @@ fn refill(alloc: Global, key: &mut Key, cell: CellView<'_>) -> Result<bool, Allo
             kept.refill(alloc, bytes)?;
             return Ok(true);
         }
+        (Key::Int(kept), CellView::Int(number)) => {
+            *kept = number;
+            return Ok(true);
+        }
         _ => {}
     }
     match Key::of_cell(alloc, cell)? {
