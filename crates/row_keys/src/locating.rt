@@ -29,18 +29,30 @@ fn mean_span(chunks: &[StoredChunk]) -> usize
     numbers.div_ceil(chunks.len().max(1)).max(1)
 }
 
-/// Where the row of this number lies, if it is retained. It is looked for first where it would be if each chunk had this
-/// many numbers.
-fn locate_by_span(chunks: &[StoredChunk], span: usize, number: usize) -> Option<Location>
+/// Where the row of this number is looked for first: in the chunk at index `near` if that spans the number, and otherwise
+/// where it would be if each chunk had this many numbers.
+fn likely_location(chunks: &[StoredChunk], near: usize, span: usize, number: usize) -> Location
+    requires span { 0 < span }
+{
+    match chunks.get(near) {
+        Some(chunk) if chunk.first <= number && number - chunk.first < chunk.span => Location {
+            chunk: near,
+            index: number - chunk.first,
+        },
+        _ => Location {
+            chunk: number / span,
+            index: number % span,
+        },
+    }
+}
+
+/// Where the row of this number lies, if it is retained.
+fn locate_from(chunks: &[StoredChunk], near: usize, span: usize, number: usize) -> Option<Location>
     requires chunks { (len : ℕ) × AreChunks 0 chunks.now len }
     requires span { 0 < span }
     ensures { MatchOption result (row_in chunks.now number ≡ []) (λ at. LiesAt chunks.now number at.chunk at.index) }
 {
-    let near = Location {
-        chunk: number / span,
-        index: number % span,
-    };
-    locate_near(chunks, near, number)
+    locate_near(chunks, likely_location(chunks, near, span, number), number)
 }
 
 /// The locations of the rows of these numbers, which are retained.
@@ -54,9 +66,11 @@ fn find_locations(
     ensures { IfOk result (λ locations. AreAtLocations chunks.now numbers.now locations.items) }
 {
     let span = mean_span(chunks);
+    let mut near = 0;
     let mut locations = Vec::with_capacity(alloc, numbers.len())?;
     for number in numbers {
-        let at = locate_by_span(chunks, span, *number).unwrap();
+        let at = locate_from(chunks, near, span, *number).unwrap();
+        near = at.chunk;
         locations.push(RowLocation {
             batch: at.chunk,
             row: at.index,
@@ -95,7 +109,7 @@ pub(crate) fn locate_rows<'a>(
 }
 
 /// The location of the row of this number, which is retained; one in no chunk where there is no number.
-fn place_if(chunks: &[StoredChunk], span: usize, number: Option<usize>) -> RowLocation
+fn place_if(chunks: &[StoredChunk], near: usize, span: usize, number: Option<usize>) -> RowLocation
     requires chunks { (len : ℕ) × AreChunks 0 chunks.now len }
     requires span { 0 < span }
     requires kept { IfSome number (λ n. 0 < length (row_in chunks.now n)) }
@@ -107,7 +121,7 @@ fn place_if(chunks: &[StoredChunk], span: usize, number: Option<usize>) -> RowLo
             row: 0,
         };
     };
-    let found = locate_by_span(chunks, span, number).unwrap();
+    let found = locate_from(chunks, near, span, number).unwrap();
     RowLocation {
         batch: found.chunk,
         row: found.index,
@@ -125,9 +139,12 @@ fn find_locations_if(
     ensures { IfOk result (λ locations. MayBeAtLocations chunks.now numbers.now locations.items) }
 {
     let span = mean_span(chunks);
+    let mut near = 0;
     let mut locations = Vec::with_capacity(alloc, numbers.len())?;
     for number in numbers {
-        locations.push(place_if(chunks, span, *number))?;
+        let place = place_if(chunks, near, span, *number);
+        near = place.batch;
+        locations.push(place)?;
     }
     Ok(locations)
 }

@@ -13,7 +13,7 @@ loop-number-preserved c =
     let n = get_or numbers i 0 in
     let a = c.unwrap-at.result in
     let P : Option Location → Type 0 = λ o. MatchOption o (row_in cs n ≡ []) (λ x. LiesAt cs n x.chunk x.index) in
-    let at : LiesAt cs n a.chunk a.index = subst P c.unwrap-at.ensures c.locate_by_span.ensures in
+    let at : LiesAt cs n a.chunk a.index = subst P c.unwrap-at.ensures c.locate_from.ensures in
     places_next cs numbers i c.loop-number.locations.items c.push.new.self.items _ c.loop-number-test.true
     c.in_ok-push.ensures.items at c.loop-number.invariant
 

@@ -12,4 +12,4 @@ returns c =
     let a = c.unwrap-found.result in
     let P : Option Location → Type 0 = λ o. MatchOption o (row_in cs n ≡ []) (λ x. LiesAt cs n x.chunk x.index) in
     subst (λ o. IsAtLocation cs o (record { batch = a.chunk; row = a.index })) (sym c.in-Some.is)
-    (subst P c.unwrap-found.ensures c.locate_by_span.ensures)
+    (subst P c.unwrap-found.ensures c.locate_from.ensures)
