@@ -195,23 +195,36 @@ fn side_number(
     stores[lookup.side + 1].number_with_key(keys, row.cell(lookup.on))
 }
 
-/// The numbers of the side table's rows that are looked up for visited rows, where there are such rows.
+/// Looks for rows of the main table first where a visited row lies, from now on.
+fn seek(stores: &mut Vec<RowStore>, visit: &Visit)
+    requires { 0 < length stores.old.items }
+    ensures { stores.new.items ≡ stores.old.items }
+{
+    stores[0].seek(visit);
+}
+
+/// The numbers of the side table's rows that are looked up for visited rows, where there are such rows. Each row is
+/// sought where the one before it lies.
 fn side_numbers(
     alloc: Global,
-    stores: &[RowStore],
+    stores: &mut Vec<RowStore>,
     lookup: Lookup,
     visits: &Visits,
 ) -> Result<Vec<Option<usize>>, AllocError>
-    requires lookup { IsLookup (tables_in stores.now) (Some lookup) }
-    requires there { All (λ n. n < length (main_slots stores.now)) visits.now }
-    ensures rows { IfOk result (λ numbers. AreLookedUp stores.now lookup visits.now numbers.items) }
+    requires main { 0 < length stores.old.items }
+    requires lookup { IsLookup (tables_in stores.old.items) (Some lookup) }
+    requires there { All (λ n. n < length (main_slots stores.old.items)) visits.now }
+    ensures rows { IfOk result (λ numbers. AreLookedUp stores.old.items lookup visits.now numbers.items) }
     ensures live { IfOk result
-        (λ numbers. All (λ o. IfSome o (IsLiveAt (slots_in stores.now (suc lookup.side)))) numbers.items) }
+        (λ numbers. All (λ o. IfSome o (IsLiveAt (slots_in stores.old.items (suc lookup.side)))) numbers.items) }
+    ensures same { stores.new.items ≡ stores.old.items }
 {
     let mut keys = KeyBuffer::new(alloc);
     let mut numbers = Vec::with_capacity(alloc, visits.len())?;
     for place in 0..visits.len() {
-        numbers.push(side_number(stores, lookup, visits.at(place), &mut keys)?)?;
+        let visit = visits.at(place);
+        seek(stores, &visit);
+        numbers.push(side_number(stores, lookup, visit, &mut keys)?)?;
     }
     Ok(numbers)
 }

@@ -1,9 +1,5 @@
-use Rattle.std.proofs.Common.{ℕ, List, Option, suc, All, add-one, subst}
-use Rattle.std.specs.Prelude.{IfSome}
-use Rattle.row_keys.specs.Slots.{IsLiveAt}
-use Rattle.row_keys.specs.Store.{Store}
+use Rattle.std.proofs.Common.{ℕ, List, Option, suc, add-one, subst}
 use Rattle.upkeep.specs.JoinedRows.{AreLookedUp}
-use Rattle.upkeep.specs.Stores.{slots_in}
 use Rattle.upkeep.proofs.SideNumbers.{live_before, looked_before}
 use Rattle.upkeep.proofs.reading.show_joined.Goals as goal
 
@@ -13,7 +9,6 @@ returns-clause-joined c =
     let now = c.visit_all-visits.new.stores.items in
     let l = c.args.lookup in
     let sides : List (Option ℕ) = c.in_ok-side_numbers.side_numbers.items in
-    let L : List Store → Type 0 = λ s. All (λ o. IfSome o (IsLiveAt (slots_in s (suc l.side)))) sides in
     record {
       columns_are = c.in_ok-columns.ensures;
       visits_are = c.visit_all-visits.ensures.numbers;
@@ -21,9 +16,8 @@ returns-clause-joined c =
       looked_up =
           looked_before old now l c.args.numbers.items sides c.visit_all-visits.ensures.same_rows
           (subst (λ (ns : List ℕ). AreLookedUp now l ns sides) c.visit_all-visits.ensures.numbers
-          (subst (λ (s : List Store). AreLookedUp s l c.visit_all-visits.result sides) c.deref.ensures.value
-          c.in_ok-side_numbers.ensures.rows));
+          c.in_ok-side_numbers.ensures.rows);
       live =
           live_before old now (suc l.side) sides c.visit_all-visits.ensures.same_rows
-          (subst L c.deref.ensures.value c.in_ok-side_numbers.ensures.live);
+          c.in_ok-side_numbers.ensures.live;
     }

@@ -1,4 +1,4 @@
-use Rattle.std.proofs.Common.{All, suc, take}
+use Rattle.std.proofs.Common.{◌≡◌, All, suc, take}
 use Rattle.std.specs.Prelude.{IfSome}
 use Rattle.row_keys.specs.Slots.{IsLiveAt}
 use Rattle.upkeep.specs.JoinedRows.{AreLookedUp}
@@ -7,6 +7,7 @@ use Rattle.upkeep.proofs.reading.side_numbers.Given as goal
 
 abbrev pub invariant-loop-place : goal.invariant-loop-place
 invariant-loop-place l = record {
-  rows : AreLookedUp l.stores l.lookup (take l.place l.visits) l.numbers.items;
-  live : All (λ o. IfSome o (IsLiveAt (slots_in l.stores (suc l.lookup.side)))) l.numbers.items;
+  rows : AreLookedUp l.fn.stores.items l.lookup (take l.place l.visits) l.numbers.items;
+  live : All (λ o. IfSome o (IsLiveAt (slots_in l.fn.stores.items (suc l.lookup.side)))) l.numbers.items;
+  same : l.stores.items ≡ l.fn.stores.items;
 }
