@@ -34,7 +34,6 @@ use Rattle.std.proofs.Common.{
   append_assoc,
   length-append,
   length-drop,
-  length-take,
 }
 use Rattle.std.specs.Prelude.{Bool, ◌&&◌, if◌then◌else◌, map, not, replicate, slice_index, slice_range}
 use Rattle.std.specs.List.{flat_map}

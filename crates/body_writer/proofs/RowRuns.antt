@@ -18,7 +18,6 @@ use Rattle.std.proofs.Common.{
   length,
   get_or,
   drop,
-  take,
   replicate,
   refl,
   ap,
@@ -27,23 +26,21 @@ use Rattle.std.proofs.Common.{
   subst,
   ◌∙◌,
   arith,
-  append-nil,
   append_assoc,
 }
 use Rattle.std.specs.Prelude.{map, slice_get}
-use Rattle.std.proofs.lemmas.List.{drop_all, drop_more}
+use Rattle.std.proofs.lemmas.List.{drop_more}
 use Rattle.std.proofs.lemmas.List.Elements.{All-append, All-cons, All-get_or, All-head, All-nil, All-tail}
 use denote.Ref.{Bor}
-use Rattle.values.specs.Datum.{Datum, null}
+use Rattle.values.specs.Datum.{null}
 use Rattle.schema_meta.specs.Rows.{rows_from}
 use Rattle.body_writer.specs.Batch.{row_cell, row_cells}
 use Rattle.body_writer.specs.Slots.{part}
-use Rattle.body_writer.specs.RowRanges.{HasColumn, IsSized, batch_rows, cells_in, range_rows}
+use Rattle.body_writer.specs.RowRanges.{HasColumn, IsSized, cells_in, range_rows}
 use Rattle.body_writer.specs.Segments.{HasWidth, OfSlots, segments_cells}
 use Rattle.body_writer.specs.Locations.{HasRow, HaveCells, IsLocated, cells_at, located_row, row_in}
 use Rattle.body_writer.specs.RowRuns.{run_places}
 use Rattle.body_writer.specs.declared.from_columns.batch.Batch.{Batch}
-use Rattle.body_writer.specs.declared.from_columns.batch.RowRange.{RowRange}
 use Rattle.body_writer.specs.declared.from_columns.segment.Segment.{Segment}
 use Rattle.body_writer.specs.declared.from_locations.location.RowLocation.{RowLocation}
 use Rattle.body_writer.proofs.Cells.{part-listed}
@@ -195,13 +192,3 @@ run-turns j bs ps i segments next b from to end d h is pushed width so =
           ∙ append_assoc (segments_cells segments) (cells_at j bs old) (cells_at j bs (drop i ps))
           ∙ ap (λ cs. segments_cells segments ++ cs) (sym (cells-append j bs old (drop i ps))) ∙ so.cells;
     })
-
-pub run-ends : (j : ℕ) (bs : List (Bor Batch)) (ps : List RowLocation) (i : ℕ) (segments next : List Segment)
-    (b from to : ℕ) → length ps ≤ i
-    → segments_cells next ≡ segments_cells segments ++ cells_at j bs (run_places b from (to - from))
-    → RunSoFar j bs ps i segments b from to → segments_cells next ≡ cells_at j bs ps
-run-ends j bs ps i segments next b from to h pushed so =
-    let old = run_places b from (to - from) in
-    pushed
-    ∙ ap (λ qs. segments_cells segments ++ cells_at j bs qs)
-    (sym (append-nil old) ∙ ap (λ qs. old ++ qs) (sym (drop_all i ps h))) ∙ so.cells

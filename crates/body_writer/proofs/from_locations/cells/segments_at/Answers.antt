@@ -1,7 +1,7 @@
 use Rattle.std.proofs.Common.{List, ◌+◌, ap, subst, sym}
 use Rattle.body_writer.specs.declared.from_columns.segment.Segment.{Segment}
 use Rattle.body_writer.specs.declared.from_locations.cells.RowRun.{RowRun}
-use Rattle.body_writer.proofs.RowRuns.{RunSoFar, run-ends, run-grows, run-turns}
+use Rattle.body_writer.proofs.RowRuns.{RunSoFar, run-grows, run-turns}
 use Rattle.body_writer.proofs.from_locations.cells.segments_at.Goals as goal
 use Rattle.body_writer.proofs.from_locations.cells.segments_at.Goals.{then-place-run+then-place-run-2, else-place-run+in_ok-push_run}
 
