@@ -44,7 +44,7 @@ ghost use Rattle.upkeep.specs.ViewStates.{
 ghost use Rattle.upkeep.specs.declared.view_state.Turn.TheVariants as turn_is;
 
 use crate::arrivals::Arrival;
-use crate::inputs::join_row;
+use crate::inputs::{join_row, keep_row};
 use crate::turning::{turn_joined, turn_link, turn_referrer};
 use crate::view_state::{Links, Materialized, Turn, ViewState, materializes_nothing};
 use row_keys::{RowStore, StoredRow, Visit, numbers_law};
@@ -72,6 +72,9 @@ fn turn_main_row(
 {
     if let Materialized::Live = kept {
         return Ok(());
+    }
+    if view.lookup.is_none() {
+        return turn_joined(view, kept, turn, number, &keep_row(view, row));
     }
     let joined = join_row(stores, view, row, keys)?;
     turn_joined(view, kept, turn, number, &joined)

@@ -1,9 +1,9 @@
 //! Joins and filters rows of the main table for a view, where they lie.
 
-ghost use Rattle.std.specs.Prelude.{◌≡◌, IfOk};
+ghost use Rattle.std.specs.Prelude.{◌≡◌, IfOk, None};
 ghost use Rattle.std.specs.Option.{option_map};
 ghost use Rattle.view_lang.specs.ConfigRules.{IsLookup, IsView};
-ghost use Rattle.view_lang.specs.Joined.{looked_up};
+ghost use Rattle.view_lang.specs.Joined.{Side, looked_up};
 ghost use Rattle.view_lang.specs.Views.{passing_row, side_in};
 ghost use Rattle.upkeep.specs.Inputs.{side_from};
 ghost use Rattle.upkeep.specs.JoinedRows.{joined_cells};
@@ -53,4 +53,12 @@ pub(crate) fn join_row<'a>(
     } else {
         Ok(None)
     }
+}
+
+/// A row of the main table for a view that looks nothing up, where it lies; `None` where the view's filter isn't true.
+pub(crate) fn keep_row<'a>(view: &View, row: StoredRow<'a>) -> Option<StoredRow<'a>>
+    requires { view.now.lookup ≡ None }
+    ensures { (side : Side) → option_map (λ r. r) result ≡ passing_row view.now side row.entry }
+{
+    if view.keeps(&row) { Some(row) } else { None }
 }
