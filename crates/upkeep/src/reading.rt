@@ -203,8 +203,10 @@ fn seek(stores: &mut Vec<RowStore>, visit: &Visit)
     stores[0].seek(visit);
 }
 
-/// The numbers of the side table's rows that are looked up for visited rows, where there are such rows. Each row is
-/// sought where the one before it lies.
+/// How many joined rows are read where one of them was sought: most lie in the same chunk as the one before.
+const SOUGHT_EACH: usize = 64;
+
+/// The numbers of the side table's rows that are looked up for visited rows, where there are such rows.
 fn side_numbers(
     alloc: Global,
     stores: &mut Vec<RowStore>,
@@ -223,7 +225,9 @@ fn side_numbers(
     let mut numbers = Vec::with_capacity(alloc, visits.len())?;
     for place in 0..visits.len() {
         let visit = visits.at(place);
-        seek(stores, &visit);
+        if place % SOUGHT_EACH == 0 {
+            seek(stores, &visit);
+        }
         numbers.push(side_number(stores, lookup, visit, &mut keys)?)?;
     }
     Ok(numbers)
