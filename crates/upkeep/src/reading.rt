@@ -203,8 +203,9 @@ fn seek(stores: &mut Vec<RowStore>, visit: &Visit)
     stores[0].seek(visit);
 }
 
-/// How many joined rows are read where one of them was sought: most lie in the same chunk as the one before.
-const SOUGHT_EACH: usize = 64;
+/// One of this many joined rows is sought. Most of the others lie in the chunk of the row that was sought last, where they
+/// are found at once.
+const ROWS_PER_SEEK: usize = 64;
 
 /// The numbers of the side table's rows that are looked up for visited rows, where there are such rows.
 fn side_numbers(
@@ -225,7 +226,7 @@ fn side_numbers(
     let mut numbers = Vec::with_capacity(alloc, visits.len())?;
     for place in 0..visits.len() {
         let visit = visits.at(place);
-        if place % SOUGHT_EACH == 0 {
+        if place % ROWS_PER_SEEK == 0 {
             seek(stores, &visit);
         }
         numbers.push(side_number(stores, lookup, visit, &mut keys)?)?;

@@ -219,11 +219,12 @@ fn follows(place: &RowLocation, before: &RowLocation) -> bool {
 
 /// Whether rows at these locations lie in few runs of consecutive rows.
 fn are_in_runs(locations: &[RowLocation]) -> bool {
+    let most = locations.len() / RUN_ROWS;
     let mut turns = 0usize;
     for i in 1..locations.len() {
         if !follows(&locations[i], &locations[i - 1]) {
-            turns = RUN_ROWS.saturating_add(turns);
-            if turns > locations.len() {
+            turns = turns.saturating_add(1);
+            if turns > most {
                 return false;
             }
         }
