@@ -4,7 +4,8 @@ pub mod Appended
 pub mod SortKeys
 pub mod InlineKeys
 pub mod RankLemmas
-pub mod NumberEntries
+pub mod ShortTexts
+pub mod ShortEntries
 pub mod Ties
 pub mod OneRow
 pub mod SortedOrderEntries

@@ -2,8 +2,9 @@
 use Rattle.std.specs.Prelude.{List}
 use Rattle.top_rows.specs.EntryOrder.{RowEntry}
 use Rattle.top_rows.specs.declared.row_entries.Form.{Form}
-use Rattle.top_rows.specs.declared.row_entries.Form.TheVariants.{Entries, Pairs}
+use Rattle.top_rows.specs.declared.row_entries.Form.TheVariants.{Entries, OneKey, TwoKeys}
 
 abbrev pub entries_in : Form → List RowEntry
-entries_in (Pairs entries) = entries
+entries_in (OneKey entries) = entries
+entries_in (TwoKeys entries) = entries
 entries_in (Entries entries) = entries.keys

@@ -5,7 +5,8 @@ pub mod InlineKeys
 pub mod EntryOrder
 pub mod Ties
 pub mod Places
-pub mod NumberEntries
+pub mod ShortTexts
+pub mod ShortEntries
 pub mod EntryForms
 pub mod Keeping
 pub mod OrderParts

@@ -1,17 +1,15 @@
 //! Entries of an order.
 
 ghost use Rattle.std.specs.Prelude.{◌≡◌, IfOk};
-ghost use Rattle.top_rows.specs.NumberEntries.{number_entry};
 ghost use Rattle.top_rows.specs.OrderParts.{entry_with};
 ghost use Rattle.top_rows.specs.Places.{place_of};
 
-use crate::number_key::NumberKey;
 use crate::parts::OrderEntryParts;
 use crate::sort_key_list::SortKeyList;
 use std::alloc::{AllocError, Global};
 use std::cmp::Ordering;
 use std::marker::Model;
-use view_lang::{Direction, OrderBy, RowView};
+use view_lang::{OrderBy, RowView};
 
 /// The entry of a row in an order: its sort keys, one for each of the order's columns, and its number, by which ties
 /// are broken. Contracts see the pair of both. Most entries are told apart by the rank of their sort keys.
@@ -92,7 +90,8 @@ impl Ord for OrderEntry {
 }
 
 impl OrderEntry {
-    fn new(sort_keys: SortKeyList, number: usize) -> OrderEntry
+    /// The entry of these sort keys and this number.
+    pub(crate) fn new(sort_keys: SortKeyList, number: usize) -> OrderEntry
         ensures { result ≡ (sort_keys, number) }
     {
         OrderEntry {
@@ -131,18 +130,6 @@ impl OrderEntry {
         } = self;
         let sort_keys = sort_keys.into_list()?;
         Ok(OrderEntryParts { sort_keys, number })
-    }
-
-    /// The entry that is stored as a pair.
-    pub(crate) fn of_pair(
-        alloc: Global,
-        direction: Direction,
-        pair: (NumberKey, usize),
-    ) -> OrderEntry
-        ensures { result ≡ number_entry direction pair }
-    {
-        let (key, number) = pair;
-        OrderEntry::new(SortKeyList::of_one(alloc, key.widened(direction)), number)
     }
 
     /// The row's number.

@@ -8,11 +8,13 @@
 mod entry;
 mod inline_kind;
 mod laws;
-mod number_key;
-mod number_pairs;
 mod ordered;
 mod parts;
 mod row_entries;
+mod short_entries;
+mod short_key;
+mod short_keys;
+mod short_text;
 mod sort_key;
 mod sort_key_list;
 #[cfg(test)]

@@ -11,17 +11,21 @@ ghost use Rattle.top_rows.specs.OrderParts.{entry_with};
 ghost use Rattle.top_rows.specs.Places.{place_of};
 
 use crate::entry::OrderEntry;
-use crate::number_pairs::NumberPairs;
 use crate::parts::OrderEntryParts;
+use crate::short_entries::ShortEntries;
+use crate::short_key::ShortKey;
 use std::alloc::{AllocError, Global};
 use std::collections::BTreeSet;
 use std::marker::Model;
 use view_lang::{OrderBy, RowView};
 
-/// How entries are stored: as pairs as long as all can be, else as they are.
+/// How entries are stored.
 #[derive(Debug, Drop)]
 enum Form {
-    Pairs(NumberPairs),
+    /// Of an order by one column, as long as all sort keys are short.
+    OneKey(ShortEntries<ShortKey>),
+    /// Of an order by two columns, as long as all sort keys are short.
+    TwoKeys(ShortEntries<(ShortKey, ShortKey)>),
     Entries(BTreeSet<OrderEntry>),
 }
 
@@ -41,9 +45,9 @@ impl Model for RowEntries {
     ghost view = { λ r. entries_in r.form };
 }
 
-/// Inserts the entry of a row, if it is stored as a pair, and returns whether it is. If memory is refused, nothing has
-/// changed.
-fn insert_pair<R: RowView>(
+/// Inserts the entry of a row, if it is stored as a short one, and returns whether it is. If memory is refused, nothing
+/// has changed.
+fn insert_short<R: RowView>(
     form: &mut Form,
     order: &[OrderBy],
     number: usize,
@@ -56,19 +60,21 @@ fn insert_pair<R: RowView>(
     ensures err { OnErr result (entries_in form.new ≡ entries_in form.old) }
 {
     match form {
-        Form::Pairs(pairs) => pairs.insert(order, number, row),
+        Form::OneKey(entries) => entries.insert(order, number, row),
+        Form::TwoKeys(entries) => entries.insert(order, number, row),
         Form::Entries(_entries) => Ok(false),
     }
 }
 
-/// Removes the entry of a row, if it is stored as a pair, and returns whether it is.
-fn remove_pair<R: RowView>(form: &mut Form, order: &[OrderBy], number: usize, row: &R) -> bool
+/// Removes the entry of a row, if it is stored as a short one, and returns whether it is.
+fn remove_short<R: RowView>(form: &mut Form, order: &[OrderBy], number: usize, row: &R) -> bool
     ensures done { result ≡ true → entries_in form.new
         ≡ remove_key (is_at (entry_cmp (place_of order.now number (R.cells row.now)))) (entries_in form.old) }
     ensures left { result ≡ false → entries_in form.new ≡ entries_in form.old }
 {
     match form {
-        Form::Pairs(pairs) => pairs.remove(order, number, row),
+        Form::OneKey(entries) => entries.remove(order, number, row),
+        Form::TwoKeys(entries) => entries.remove(order, number, row),
         Form::Entries(_entries) => false,
     }
 }
@@ -78,18 +84,16 @@ fn insert_entry(form: &mut Form, alloc: Global, entry: OrderEntry) -> Result<(),
     ensures ok { OnOk result (entries_in form.new ≡ insert_key entry_cmp (entries_in form.old) entry) }
     ensures err { OnErr result (entries_in form.new ≡ entries_in form.old) }
 {
-    let entries = match form {
+    let mut widened = match form {
         Form::Entries(entries) => {
             entries.insert(entry)?;
             return Ok(());
         }
-        Form::Pairs(pairs) => {
-            let mut entries = pairs.widened(alloc)?;
-            entries.insert(entry)?;
-            entries
-        }
+        Form::OneKey(entries) => entries.widened(alloc)?,
+        Form::TwoKeys(entries) => entries.widened(alloc)?,
     };
-    *form = Form::Entries(entries);
+    widened.insert(entry)?;
+    *form = Form::Entries(widened);
     Ok(())
 }
 
@@ -98,18 +102,16 @@ fn remove_entry(form: &mut Form, alloc: Global, entry: &OrderEntry) -> Result<()
     ensures ok { OnOk result (entries_in form.new ≡ remove_key (is_at (entry_cmp entry.now)) (entries_in form.old)) }
     ensures err { OnErr result (entries_in form.new ≡ entries_in form.old) }
 {
-    let entries = match form {
+    let mut widened = match form {
         Form::Entries(entries) => {
             let _there = entries.remove(entry);
             return Ok(());
         }
-        Form::Pairs(pairs) => {
-            let mut entries = pairs.widened(alloc)?;
-            let _there = entries.remove(entry);
-            entries
-        }
+        Form::OneKey(entries) => entries.widened(alloc)?,
+        Form::TwoKeys(entries) => entries.widened(alloc)?,
     };
-    *form = Form::Entries(entries);
+    let _there = widened.remove(entry);
+    *form = Form::Entries(widened);
     Ok(())
 }
 
@@ -151,7 +153,8 @@ impl RowEntries {
         ensures { result ≡ [] }
     {
         let form = match order {
-            [by] => Form::Pairs(NumberPairs::new(alloc, by.direction)),
+            [_] => Form::OneKey(ShortEntries::new(alloc)),
+            [_, _] => Form::TwoKeys(ShortEntries::new(alloc)),
             _ => Form::Entries(BTreeSet::new(alloc)),
         };
         RowEntries { form }
@@ -162,7 +165,8 @@ impl RowEntries {
         ensures { IfOk result (λ parts. map entry_with parts.items ≡ self) }
     {
         match self.form {
-            Form::Pairs(pairs) => parts_of(pairs.widened(alloc)?, alloc),
+            Form::OneKey(entries) => parts_of(entries.widened(alloc)?, alloc),
+            Form::TwoKeys(entries) => parts_of(entries.widened(alloc)?, alloc),
             Form::Entries(entries) => parts_of(entries, alloc),
         }
     }
@@ -191,7 +195,7 @@ impl RowEntries {
             (self.new ≡ insert_key entry_cmp self.old (place_of order.now number (R.cells row.now))) }
         ensures err { OnErr result (self.new ≡ self.old) }
     {
-        if insert_pair(&mut self.form, order, number, row)? {
+        if insert_short(&mut self.form, order, number, row)? {
             return Ok(());
         }
         let entry = OrderEntry::of(alloc, order, number, row)?;
@@ -210,7 +214,7 @@ impl RowEntries {
             ≡ remove_key (is_at (entry_cmp (place_of order.now number (R.cells row.now)))) self.old) }
         ensures err { OnErr result (self.new ≡ self.old) }
     {
-        if remove_pair(&mut self.form, order, number, row) {
+        if remove_short(&mut self.form, order, number, row) {
             return Ok(());
         }
         let entry = OrderEntry::of(alloc, order, number, row)?;
@@ -222,7 +226,8 @@ impl RowEntries {
         ensures { IsStrictlySortedBy entry_cmp self.now }
     {
         match &self.form {
-            Form::Pairs(pairs) => pairs.ascending_law(),
+            Form::OneKey(entries) => entries.ascending_law(),
+            Form::TwoKeys(entries) => entries.ascending_law(),
             Form::Entries(entries) => {
                 let _size = entries.len();
             }
@@ -234,7 +239,8 @@ impl RowEntries {
         ensures { IfOk result (λ numbers. numbers.items ≡ map (λ (p : RowEntry). p.1) (take most self.now)) }
     {
         match &self.form {
-            Form::Pairs(pairs) => pairs.first(alloc, most),
+            Form::OneKey(entries) => entries.first(alloc, most),
+            Form::TwoKeys(entries) => entries.first(alloc, most),
             Form::Entries(entries) => first_numbers(entries, alloc, most),
         }
     }

@@ -198,7 +198,8 @@ impl SortKeyList {
         }
     }
 
-    fn with_two(first: SortKey, second: SortKey, others: Vec<SortKey>) -> SortKeyList
+    /// The list of two sort keys and others.
+    pub(crate) fn with_two(first: SortKey, second: SortKey, others: Vec<SortKey>) -> SortKeyList
         ensures { result ≡ first ∷ second ∷ others.items }
     {
         let (first_kind, first) = parted(first);

@@ -181,3 +181,67 @@ fn orders_keys_of_one_rank(rt: HostRuntime) -> Result<(), Fail> {
     );
     Ok(())
 }
+
+/// A row of a text and a number.
+fn texted(alloc: Global, text: &str, number: i128) -> Result<Row, AllocError> {
+    let mut cells = row(alloc, Kind::Utf8(String::from_str(alloc, text)?))?;
+    cells.push(Value {
+        kind: Kind::Int(number),
+    })?;
+    Ok(cells)
+}
+
+/// The numbers of rows in an order by a text in this direction, and then by a falling number; the same with a text of 15
+/// bytes, which isn't short; and of the first rows without the first of them.
+fn in_order_of_texts(alloc: Global, direction: Direction) -> Result<[Vec<usize>; 3], AllocError> {
+    let by_text = OrderBy {
+        column: 0,
+        direction,
+    };
+    let by_number = OrderBy {
+        column: 1,
+        direction: Direction::Descending,
+    };
+    let mut ordered = Ordered::new(alloc, &[by_text, by_number])?;
+    let texts = ["abcdefghijklmn", "", "a", "abcdefgh\0", "abcdefgh", "a\0"];
+    for (number, text) in texts.iter().enumerate() {
+        ordered.come(number, &texted(alloc, text, 1)?.as_slice())?;
+    }
+    ordered.come(6, &texted(alloc, "a", 2)?.as_slice())?;
+    ordered.come(7, &row(alloc, Kind::Null)?.as_slice())?;
+    let short = ordered.first(alloc, 9)?;
+    ordered.come(8, &texted(alloc, "abcdefghijklmno", 1)?.as_slice())?;
+    let all = ordered.first(alloc, 9)?;
+    ordered.go(8, &texted(alloc, "abcdefghijklmno", 1)?.as_slice())?;
+    ordered.go(2, &texted(alloc, "a", 1)?.as_slice())?;
+    let left = ordered.first(alloc, 3)?;
+    Ok([short, all, left])
+}
+
+#[test]
+fn orders_short_texts_and_others(rt: HostRuntime) -> Result<(), Fail> {
+    let [short, all, left] = in_order_of_texts(rt.alloc(), Direction::Ascending)?;
+    assert_eq!(rt; short.as_slice(), [1, 6, 2, 5, 4, 3, 0, 7].as_slice());
+    assert_eq!(rt; all.as_slice(), [1, 6, 2, 5, 4, 3, 0, 8, 7].as_slice());
+    assert_eq!(rt; left.as_slice(), [1, 6, 5].as_slice());
+    let [short, all, left] = in_order_of_texts(rt.alloc(), Direction::Descending)?;
+    assert_eq!(rt; short.as_slice(), [0, 3, 4, 5, 6, 2, 1, 7].as_slice());
+    assert_eq!(rt; all.as_slice(), [8, 0, 3, 4, 5, 6, 2, 1, 7].as_slice());
+    assert_eq!(rt; left.as_slice(), [0, 3, 4].as_slice());
+    Ok(())
+}
+
+#[test]
+fn makes_an_order_of_short_keys_of_its_parts(rt: HostRuntime) -> Result<(), Fail> {
+    let by = |column| OrderBy {
+        column,
+        direction: Direction::Descending,
+    };
+    let mut ordered = Ordered::new(rt.alloc(), &[by(1), by(0)])?;
+    ordered.come(3, &texted(rt.alloc(), "a", -1)?.as_slice())?;
+    ordered.come(1, &texted(rt.alloc(), "b", -1)?.as_slice())?;
+    ordered.come(2, &texted(rt.alloc(), "c", -2)?.as_slice())?;
+    let made = Ordered::from_parts(rt.alloc(), ordered.into_parts()?)?;
+    assert_eq!(rt; made.first(rt.alloc(), 4)?.as_slice(), [1, 3, 2].as_slice());
+    Ok(())
+}
