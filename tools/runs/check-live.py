@@ -287,6 +287,22 @@ def standard_streams(lv, views):
     assert ran([lv, "check", "-"], read(CONFIG)) == ran([lv, "check", CONFIG])
     pieces = b"".join(b"piece ports %s/ports.arrows %d 7\n" % (REPORT.encode(), at) for at in range(0, len(stream("ports")), 7))
     assert re.sub(rb"\d+: ", b"", ran([lv, "run", CONFIG, "-"], pieces)[1]) == b"schema\nbatch\nend\n"
+    input_once(lv)
+
+
+def input_once(lv):
+    """Standard input is read once: where it has the configuration or the lines, or was read by another line, it isn't read again."""
+    lines = b"feed ports -\npiece ports - 0 9\nundo\n"
+    answers = b"1: cannot read -\n1.\n2: cannot read -\n2.\n3: refused 51 NothingToUndo\n3.\n"
+    assert ran([lv, "live", CONFIG], lines) == (1, answers, b"")
+    assert ran([lv, "live", "-"], read(CONFIG)) == (1, b"cannot read -\n", b"")
+    assert ran([lv, "run", CONFIG, "-"], b"feed ports -\n") == (1, b"1: cannot read -\n", b"")
+    with tempfile.TemporaryDirectory(prefix="lv-live-") as room:
+        script = os.path.join(room, "script")
+        with open(script, "w") as file:
+            file.write("piece ports - 0 99999\npiece ports - 0 9\n")
+        events = b"1: schema\n1: batch\n1: end\n2: cannot read -\n"
+        assert ran([lv, "run", CONFIG, script], stream("ports")) == (1, events, b"")
 
 
 def explained(lv):

@@ -23,6 +23,8 @@ pub struct Disk<'a, R: std::rt::Files> {
     aside: &'a Aside,
     /// Whether the progress of reading a file is reported to a terminal.
     is_reported: bool,
+    /// Whether standard input was opened, which can be done once.
+    is_input_taken: bool,
     output: Output<R::File>,
     fault: Option<FileFault>,
     failures: u64,
@@ -63,6 +65,7 @@ impl<'a, R: std::rt::Files> Disk<'a, R> {
             runtime,
             aside,
             is_reported,
+            is_input_taken: false,
             output: Output::Missing,
             fault: None,
             failures: 0,
@@ -86,6 +89,27 @@ impl<'a, R: std::rt::Files + Clock + Eprint> Disk<'a, R> {
             Progress::begin(self.runtime, len_of(file))
         } else {
             None
+        }
+    }
+}
+
+impl<'a, R: std::rt::Files + Input + Eprint + Clock + AllocGlobal> Disk<'a, R> {
+    /// Opens standard input, if it wasn't opened before: what was read of it by then isn't there any more.
+    fn open_standard(&mut self) -> Result<Tracked<'a, R, Source<R::File, R::Reader>>, FileFault>
+        ensures { self.new.failures ≡ self.old.failures }
+    {
+        if self.is_input_taken {
+            return Err(FileFault::Unusable);
+        }
+        match Box::new(self.runtime.alloc(), self.runtime.reader()) {
+            Ok(input) => {
+                self.is_input_taken = true;
+                Ok(Tracked {
+                    source: Source::Standard(input),
+                    progress: self.progress(),
+                })
+            }
+            Err(_) => Err(FileFault::Memory),
         }
     }
 }
@@ -152,13 +176,7 @@ impl<'a, R: std::rt::Files + Input + Print + Eprint + Clock + AllocGlobal> Files
         path: &str,
     ) -> Result<Tracked<'a, R, Source<R::File, R::Reader>>, FileFault> {
         if path == STANDARD {
-            return match Box::new(self.runtime.alloc(), self.runtime.reader()) {
-                Ok(input) => Ok(Tracked {
-                    source: Source::Standard(input),
-                    progress: self.progress(),
-                }),
-                Err(_) => Err(FileFault::Memory),
-            };
+            return self.open_standard();
         }
         match fs::open(self.runtime, path) {
             Ok(file) => {
