@@ -9,6 +9,9 @@ TYPES = (*NUMBERS, *["utf8"] * 4, *OTHERS)
 # Types that can't be ordered.
 NESTED = (["list", "utf8"], ["struct", ["p", "int64"], ["q", ["list", "bool"]]], ["struct"])
 TEXTS = ("", "a", "ab", "b", "B", "é", "zz")
+# Texts that are told apart by what follows their first eight bytes, as long as those that the program stores inline; and longer ones.
+LONG_TEXTS = ("abcdefgh", "abcdefgh\0", "abcdefghi", "abcdefghijklm", "abcdefghijklmn", "abcdefghijklmz")
+LONGER_TEXTS = ("abcdefghijklmno", "abcdefghijklmnopqrstuv", "abcdefghijklmnopqrstuvw", "abcdefghijklmnopqrstuvz")
 EXTREMES = {"int64": (-(2**63), 2**63 - 1), "int8": (-128, 127), "uint64": (0, 2**64 - 1)}
 
 
@@ -143,7 +146,8 @@ def value_of(chance, type_, is_key, most_rows):
         return tuple(value_of(chance, child, False, most_rows) for _, child in of)
     is_one_of_many = is_key and most_rows > 4
     if name == "utf8":
-        return f"t{chance.randrange(10**9)}".encode() if is_one_of_many else chance.choice(TEXTS).encode()
+        texts = chance.choices((TEXTS, LONG_TEXTS, LONGER_TEXTS), (44, 5, 1))[0]
+        return f"t{chance.randrange(10**9)}".encode() if is_one_of_many else chance.choice(texts).encode()
     if name == "bool":
         return chance.random() < 0.5
     if name in ("binary", "fixed"):
