@@ -1,2 +1,3 @@
 pub mod OrderedGroups
 pub mod RankedRows
+pub mod EntryChanges

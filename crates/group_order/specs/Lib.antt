@@ -1,3 +1,4 @@
 pub mod GroupEntries
+pub mod EntryForms
 pub mod Ranked
 pub mod RankedParts

@@ -6,6 +6,7 @@
 #![tactic(auto)]
 
 mod entry;
+mod group_entries;
 mod parts;
 mod ranked;
 mod ranking;

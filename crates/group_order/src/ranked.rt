@@ -49,12 +49,11 @@ ghost use Rattle.group_order.specs.Ranked.{
 };
 ghost use Rattle.group_order.specs.RankedParts.{AreRanked, ranked_with};
 
-use crate::entry::GroupEntry;
+use crate::group_entries::GroupEntries;
 use crate::parts::RankedParts;
 use crate::ranking::Ranking;
 use group_state::{AccumulatedColumn, Group, GroupReader, GroupRow, Groups, NoReader, Tuple};
 use std::alloc::{AllocError, Global};
-use std::collections::BTreeSet;
 use std::marker::Model;
 use top_rows::SortKeyList;
 use values::Row;
@@ -66,7 +65,7 @@ pub struct RankedGroups {
     alloc: Global,
     groups: Groups,
     ranking: Ranking,
-    entries: BTreeSet<GroupEntry>,
+    entries: GroupEntries,
 }
 
 impl Model for RankedGroups {
@@ -82,7 +81,7 @@ impl Model for RankedGroups {
     ghost view = { λ r. record {
       groups = r.groups;
       ranking = r.ranking;
-      entries = r.entries.keys;
+      entries = r.entries;
     } };
 }
 
@@ -101,7 +100,7 @@ impl RankedGroups {
             alloc,
             groups,
             ranking,
-            entries: BTreeSet::new(alloc),
+            entries: GroupEntries::new(alloc),
         })
     }
 
@@ -116,15 +115,11 @@ impl RankedGroups {
             ranking,
             entries,
         } = self;
-        let groups = groups.into_parts()?;
-        let mut taken = Vec::with_capacity(alloc, entries.len())?;
-        for entry in entries {
-            taken.push(entry.into_parts(alloc)?)?;
-        }
+        entries.ascending_law();
         Ok(RankedParts {
-            groups,
+            groups: groups.into_parts()?,
             ranking,
-            entries: taken,
+            entries: entries.into_parts(alloc)?,
         })
     }
 
@@ -138,16 +133,11 @@ impl RankedGroups {
             ranking,
             entries,
         } = parts;
-        let groups = Groups::from_parts(alloc, groups)?;
-        let mut placed = BTreeSet::new(alloc);
-        for entry in entries {
-            placed.insert(GroupEntry::from_parts(alloc, entry)?)?;
-        }
         Ok(RankedGroups {
             alloc,
-            groups,
+            groups: Groups::from_parts(alloc, groups)?,
             ranking,
-            entries: placed,
+            entries: GroupEntries::from_parts(alloc, entries)?,
         })
     }
 
@@ -188,18 +178,6 @@ impl RankedGroups {
         }
     }
 
-    /// The entry of the row that is shown of a tuple's group, if there is one and there are entries.
-    fn entry_of(&self, tuple: &Tuple) -> Result<Option<GroupEntry>, AllocError>
-        ensures { IfOk result (λ entry. entry ≡ option_map (entry_by tuple_cmp self.now.ranking.order tuple.now)
-            (placed_at self.now.ranking self.now.groups tuple.now)) }
-    {
-        let Some(keys) = self.sort_keys_of(tuple)? else {
-            return Ok(None);
-        };
-        let tuple = tuple.copy(self.alloc)?;
-        Ok(Some(GroupEntry::new(keys, tuple)))
-    }
-
     /// Replaces the entry of a tuple's row, where there is one before or after.
     fn replace(
         &mut self,
@@ -214,17 +192,16 @@ impl RankedGroups {
     {
         match (before, after) {
             (Some(before), Some(after)) => {
-                exchange(&mut self.entries, tuple, before, after)?;
+                exchange(&mut self.entries, self.alloc, tuple, before, after)?;
                 Ok(())
             }
             (Some(before), None) => {
-                let shown = GroupEntry::new(before, tuple);
-                let _there = self.entries.remove(&shown);
-                drop(shown);
+                self.entries.ascending_law();
+                drop(self.entries.remove(self.alloc, before, tuple)?);
                 Ok(())
             }
             (None, Some(after)) => {
-                self.entries.insert(GroupEntry::new(after, tuple))?;
+                self.entries.insert(self.alloc, after, tuple)?;
                 Ok(())
             }
             (None, None) => Ok(()),
@@ -237,9 +214,10 @@ impl RankedGroups {
         ensures ranking { self.new.ranking ≡ self.old.ranking }
         ensures entries { OnOk result (AreWithEntry false self.old tuple.now self.new.entries) }
     {
-        if let Some(entry) = self.entry_of(tuple)? {
-            let _there = self.entries.remove(&entry);
-            drop(entry);
+        if let Some(sort_keys) = self.sort_keys_of(tuple)? {
+            let tuple = tuple.copy(self.alloc)?;
+            self.entries.ascending_law();
+            drop(self.entries.remove(self.alloc, sort_keys, tuple)?);
         }
         Ok(())
     }
@@ -250,8 +228,9 @@ impl RankedGroups {
         ensures ranking { self.new.ranking ≡ self.old.ranking }
         ensures entries { OnOk result (AreWithEntry true self.old tuple.now self.new.entries) }
     {
-        if let Some(entry) = self.entry_of(tuple)? {
-            self.entries.insert(entry)?;
+        if let Some(sort_keys) = self.sort_keys_of(tuple)? {
+            let tuple = tuple.copy(self.alloc)?;
+            self.entries.insert(self.alloc, sort_keys, tuple)?;
         }
         Ok(())
     }
@@ -477,13 +456,8 @@ impl RankedGroups {
         ensures tuples { IfOk result (λ tuples.
             tuples.items ≡ map (λ (p : EntrySeen). p.1) (take most self.now.entries)) }
     {
-        let mut tuples = Vec::with_capacity(alloc, self.entries.len().min(most))?;
-        for entry in self.entries.iter() {
-            if tuples.len() == most {
-                break;
-            }
-            tuples.push(entry.tuple().copy(alloc)?)?;
-        }
+        self.entries.ascending_law();
+        let tuples = self.entries.first_tuples(alloc, most)?;
         Ok(tuples)
     }
 
@@ -547,20 +521,21 @@ impl Upkeep for RankedGroups {
 
 /// Replaces the entry of a tuple's row by another.
 fn exchange(
-    entries: &mut BTreeSet<GroupEntry>,
+    entries: &mut GroupEntries,
+    alloc: Global,
     tuple: Tuple,
     before: SortKeyList,
     after: SortKeyList,
 ) -> Result<(), AllocError>
     ensures { OnOk result (AreExchanged (is_at (group_entry_cmp (before, tuple)))
-        (is_at (group_entry_cmp (after, tuple))) entries.old.keys entries.new.keys) }
+        (is_at (group_entry_cmp (after, tuple))) entries.old entries.new) }
 {
     if before == after {
         return Ok(());
     }
-    let entry = GroupEntry::new(before, tuple);
-    let _there = entries.remove(&entry);
-    entries.insert(GroupEntry::new(after, entry.into_tuple()))?;
+    entries.ascending_law();
+    let tuple = entries.remove(alloc, before, tuple)?;
+    entries.insert(alloc, after, tuple)?;
     Ok(())
 }
 

@@ -1,11 +1,11 @@
 -- Entries of rows whose sort keys are short.
 use Rattle.std.proofs.Common.{◌≡◌, refl, ap₂, ◌∙◌}
 use Rattle.std.specs.Ordering.{ordering_then}
-use Rattle.std.specs.Prelude.{◌∷◌, [], List, ℕ}
+use Rattle.std.specs.Prelude.{◌∷◌, [], List}
 use Rattle.std.specs.declared.cmp.Ordering.{Ordering}
 use Rattle.std.specs.declared.cmp.Ordering.TheVariants.{Equal, Greater, Less}
 use Rattle.values.specs.declared.key.Key.TheVariants as key
-use Rattle.top_rows.specs.EntryOrder.{RowEntry, sort_key_cmp, sort_keys_cmp}
+use Rattle.top_rows.specs.EntryOrder.{sort_key_cmp, sort_keys_cmp}
 use Rattle.top_rows.specs.contracts.short_key.ShortKeyOrd.TheImpl as order
 use Rattle.top_rows.specs.declared.short_key.ShortKey.{ShortKey}
 use Rattle.top_rows.specs.declared.short_key.ShortKey.TheVariants as short_key
@@ -27,8 +27,8 @@ sort_keys_of_one k = sort_key_of_short k ∷ []
 abbrev pub sort_keys_of_two : ShortKey × ShortKey → List SortKey
 sort_keys_of_two k = sort_key_of_short k.0 ∷ sort_key_of_short k.1 ∷ []
 
--- the entry of a row whose sort keys are stored as a value of K, which stands for these
-abbrev pub short_entry : {K : Type 0} → (K → List SortKey) → K × ℕ → RowEntry
+-- the entry of a row of some name whose sort keys are stored as a value of K, which stands for these
+abbrev pub short_entry : {K N : Type 0} → (K → List SortKey) → K × N → List SortKey × N
 short_entry sort_keys p = (sort_keys p.0, p.1)
 
 -- Short keys are ordered as the sort keys are that they stand for.

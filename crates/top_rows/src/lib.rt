@@ -23,5 +23,6 @@ mod tests;
 pub use laws::order_law;
 pub use ordered::Ordered;
 pub use parts::{OrderEntryParts, OrderedParts};
+pub use short_key::ShortKey;
 pub use sort_key::SortKey;
 pub use sort_key_list::SortKeyList;

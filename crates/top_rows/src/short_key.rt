@@ -1,11 +1,14 @@
 //! What a row is ordered by in one column, where that is a whole number of 64 bits, a short text or missing.
 
-ghost use Rattle.std.specs.Prelude.{◌≡◌, IfOk, IfSome};
+ghost use Rattle.std.specs.Prelude.{◌≡◌, ◌∷◌, IfOk, IfSome, List};
 ghost use Rattle.view_lang.specs.Cells.{cell_at};
 ghost use Rattle.values.specs.declared.key.Key.TheVariants.{Utf8};
+ghost use Rattle.top_rows.specs.InlineKeys.{listed};
 ghost use Rattle.top_rows.specs.ShortEntries.{sort_key_of_short};
+ghost use Rattle.top_rows.specs.declared.sort_key.SortKey.{SortKey as SortKeys};
 ghost use Rattle.top_rows.specs.SortKeys.{sort_key_of};
 
+use crate::inline_kind::InlineKind;
 use crate::short_text::ShortText;
 use crate::sort_key::SortKey;
 use std::alloc::{AllocError, Global};
@@ -15,7 +18,7 @@ use view_lang::{Direction, OrderBy, RowView};
 
 /// A sort key that is a whole number of 64 bits, a text of at most 14 bytes, or missing. It takes 16 bytes.
 #[derive(Debug, Drop, PartialEq, Eq, PartialOrd, Ord)]
-pub(crate) enum ShortKey {
+pub enum ShortKey {
     AscendingNumber(i64),
     AscendingText(ShortText),
     DescendingText(Reverse<ShortText>),
@@ -47,6 +50,29 @@ impl ShortKey {
                 }
             }
             CellView::Null => Some(ShortKey::Missing),
+            _ => None,
+        }
+    }
+
+    /// The short key of a sort key of this kind, if there is one.
+    pub(crate) fn of_kind(kind: InlineKind, key: &Key) -> Option<ShortKey>
+        ensures { IfSome result (λ short. (others : List SortKeys) → listed kind key.now others
+            ≡ sort_key_of_short short ∷ others) }
+    {
+        match (kind, key.view()) {
+            (InlineKind::Ascending, CellView::Int(number)) => {
+                Some(ShortKey::AscendingNumber(i64::try_from(number).ok()?))
+            }
+            (InlineKind::Ascending, CellView::Utf8(text)) => {
+                Some(ShortKey::AscendingText(ShortText::of(text)?))
+            }
+            (InlineKind::Descending, CellView::Int(number)) => {
+                Some(ShortKey::DescendingNumber(Reverse(i64::try_from(number).ok()?)))
+            }
+            (InlineKind::Descending, CellView::Utf8(text)) => {
+                Some(ShortKey::DescendingText(Reverse(ShortText::of(text)?)))
+            }
+            (InlineKind::Missing, _) => Some(ShortKey::Missing),
             _ => None,
         }
     }

@@ -44,7 +44,7 @@ impl ShortKeys for ShortKey {
     }
 
     fn widened(&self, alloc: Global) -> Result<SortKeyList, AllocError> {
-        Ok(SortKeyList::of_one(alloc, ShortKey::widened(self, alloc)?))
+        SortKeyList::of_short(alloc, self)
     }
 }
 

@@ -13,7 +13,7 @@ const ROOM: usize = 14;
 
 /// A text of at most 14 bytes, stored inline. Contracts see its bytes.
 #[derive(Debug, Drop)]
-pub(crate) struct ShortText {
+pub struct ShortText {
     len: u8,
     /// The text's bytes, and then zeros.
     bytes: [u8; ROOM],

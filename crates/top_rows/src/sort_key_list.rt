@@ -1,12 +1,14 @@
 //! Sort keys of rows.
 
-ghost use Rattle.std.specs.Prelude.{◌≡◌, [], ◌∷◌, IfOk, List, MatchOption};
+ghost use Rattle.std.specs.Prelude.{◌≡◌, [], ◌∷◌, IfOk, IfSome, List, MatchOption};
 ghost use Rattle.top_rows.specs.InlineKeys.{IsListed, cmp_in, inline_cmp, listed};
 ghost use Rattle.top_rows.specs.Ranks.{IsRank};
+ghost use Rattle.top_rows.specs.ShortEntries.{sort_keys_of_one};
 ghost use Rattle.top_rows.specs.SortKeys.{sort_keys_of};
 ghost use Rattle.top_rows.specs.declared.sort_key.SortKey.{SortKey as SortKeys};
 
 use crate::inline_kind::InlineKind;
+use crate::short_key::ShortKey;
 use crate::sort_key::SortKey;
 use key_ranks::{KEY_RANKS, key_rank};
 use std::alloc::{AllocError, Global};
@@ -182,6 +184,23 @@ impl SortKeyList {
             first_kind: InlineKind::NoKey,
             second_kind: InlineKind::NoKey,
         }
+    }
+
+    /// The short key that stands for them, if there is one sort key and it is short.
+    pub fn short(&self) -> Option<ShortKey>
+        ensures { IfSome result (λ key. self.now ≡ sort_keys_of_one key) }
+    {
+        match self.second_kind {
+            InlineKind::NoKey => ShortKey::of_kind(self.first_kind, &self.first),
+            _ => None,
+        }
+    }
+
+    /// The list of the sort key that a short one stands for.
+    pub fn of_short(alloc: Global, key: &ShortKey) -> Result<SortKeyList, AllocError>
+        ensures { IfOk result (λ keys. keys ≡ sort_keys_of_one key.now) }
+    {
+        Ok(SortKeyList::of_one(alloc, key.widened(alloc)?))
     }
 
     /// The list of one sort key.

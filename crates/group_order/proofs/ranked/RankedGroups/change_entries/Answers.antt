@@ -33,7 +33,7 @@ returns-clause-kept c = λ rows fits k.
           (c.apply_change.ensures.columns ∙ ap (λ (g : Grouped). g.columns) e)
           c.put_all.ensures.groups (c.put_all.ensures.ranking ∙ same)
           (through old _ next ns c.as_slice.result.now c.as_slice-2.result.now c.take_all.new.self.entries
-          c.self-2.inside.entries.keys c.put_all.new.self.entries c.as_slice.ensures.value c.as_slice-2.ensures.value
+          c.self-2.inside.entries c.put_all.new.self.entries c.as_slice.ensures.value c.as_slice-2.ensures.value
           (ap (λ (r : Ranked). r.entries) c.self-2.view_is) same c.in_ok-take_all.ensures.entries
           c.in_ok-put_all.ensures.entries k.ranked);
     }

@@ -14,7 +14,7 @@ returns-clause-kept c = λ all moved others part k.
     let was : Ranked = record {
       groups = c.self.inside.groups;
       ranking = c.self.inside.ranking;
-      entries = c.self.inside.entries.keys;
+      entries = c.self.inside.entries;
     } in
     let own = subst (λ (r : Ranked). IsPartOf r.groups.keys r.groups.columns t c.args.group.now all moved others)
     (sym c.self.view_is) part in

@@ -18,7 +18,7 @@ returns-clause-kept g c = λ rows n s is k.
     let was : Ranked = record {
       groups = c.self.inside.groups;
       ranking = c.self.inside.ranking;
-      entries = c.self.inside.entries.keys;
+      entries = c.self.inside.entries;
     } in
     let before = c.in_ok-keys.keys.before in
     let after = c.in_ok-keys.keys.after in

@@ -1,12 +1,10 @@
-use Rattle.std.proofs.Common.{◌≡◌, ◌∷◌, rules}
-use Rattle.group_state.proofs.Taken.{taken-next}
-use Rattle.group_order.specs.RankedParts.{entry_with}
+use Rattle.std.proofs.Common.{ap, sym, ◌∙◌, subst}
+use Rattle.std.specs.List.Sorted.{IsStrictlySortedBy}
+use Rattle.group_order.specs.GroupEntries.{group_entry_cmp}
 use Rattle.group_order.proofs.ranked.RankedGroups.into_parts.Goals as goal
 
-pub loop-entry-preserved : goal.loop-entry-preserved
-loop-entry-preserved c =
-    let x = c.in_ok-into_parts.field-0 in
-    let left : c.loop-entry.entry-iterator ≡ c.in-Some.entry ∷ c.next.new.self = search rules in
-    taken-next entry_with c.loop-entry.taken.items c.push.new.self.items x c.in-Some.entry c.loop-entry.entry-iterator
-    c.next.new.self c.args.self.entries c.in_ok-push.ensures.items left c.in_ok-into_parts.ensures
-    c.loop-entry.invariant
+pub returns-clause-kept : goal.returns-clause-kept
+returns-clause-kept c = record {
+  groups = c.in_ok-into_parts.ensures.kept;
+  ascending = subst (IsStrictlySortedBy group_entry_cmp) (sym c.in_ok-into_parts-2.ensures) c.ascending_law.ensures;
+}

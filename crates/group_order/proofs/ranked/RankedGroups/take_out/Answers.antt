@@ -1,18 +1,23 @@
-use Rattle.std.proofs.Common.{◌∙◌, ap}
-use Rattle.std.specs.Prelude.{cond, false}
+use Rattle.std.proofs.Common.{◌∙◌, ap, sym}
+use Rattle.std.specs.Prelude.{Some, cond, false}
 use Rattle.group_state.specs.Keys.{tuple_cmp}
 use Rattle.top_rows.specs.Ties.{is_entry_by, stands_by}
-use Rattle.group_order.specs.Ranked.{Ranked, placed_at}
+use Rattle.group_order.specs.GroupEntries.{GroupEntry}
+use Rattle.group_order.specs.Ranked.{Ranked, named, placed_at}
+use Rattle.group_order.proofs.EntryChanges.{removed}
 use Rattle.group_order.proofs.OrderedGroups.{is-placed}
 use Rattle.group_order.proofs.ranked.RankedGroups.take_out.Goals as goal
 
-pub returns-in-Some-clause-entries : goal.returns-in-Some-clause-entries
-returns-in-Some-clause-entries c = λ p.
+pub returns-in_ok-remove-clause-entries : goal.returns-in_ok-remove-clause-entries
+returns-in_ok-remove-clause-entries c = λ p.
     let s : Ranked = c.args.self.now in
     let t = c.args.tuple.now in
     let row = placed_at s.ranking s.groups t in
-    c.remove-there.ensures.updates.0 p
-    ∙ ap (λ b. cond b false (stands_by tuple_cmp c.self.inside.entries.keys p))
-    (is-placed s.ranking.order t row c.in-Some.entry p c.in_ok-entry.field-0 c.in-Some.is c.in_ok-entry.ensures)
+    let keys = c.in-Some.sort_keys in
+    let entry : GroupEntry = (keys, c.in_ok-tuple.tuple) in
+    removed c.self.inside.entries c.remove.new.self entry c.ascending_law.ensures c.in_ok-remove.ensures.removed p
+    ∙ ap (λ b. cond b false (stands_by tuple_cmp c.self.inside.entries p))
+    (is-placed s.ranking.order t row entry p (named t c.in_ok-sort_keys.field-0)
+    (ap (named t) c.in-Some.is ∙ ap (λ u. Some (keys, u)) (sym c.in_ok-tuple.ensures)) c.in_ok-sort_keys.ensures)
     ∙ ap (λ (r : Ranked). cond (is_entry_by tuple_cmp s.ranking.order t row p) false (stands_by tuple_cmp r.entries p))
     c.self.view_is

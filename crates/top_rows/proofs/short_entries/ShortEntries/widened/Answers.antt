@@ -1,4 +1,5 @@
 use Rattle.std.proofs.Common.{◌≡◌, [], ◌∷◌, ◌++◌, rules, refl, ap, sym, ◌∙◌, ℕ, List, map}
+use Rattle.std.specs.Ordering.{nat_cmp}
 use Rattle.top_rows.proofs.Appended.{insert-next}
 use Rattle.top_rows.proofs.ShortEntries.{ascending-pairs}
 use Rattle.top_rows.specs.EntryOrder.{RowEntry, entry_cmp, entry_total}
@@ -16,6 +17,6 @@ loop-keys-preserved g c =
     ap (λ (l : List RowEntry). l ++ map entry_of rest) c.in_ok-insert.ensures.keys
     ∙ insert-next entry_cmp entry_total entry_of c.loop-keys.entries.keys c.new.result c.in-Some.field-0.now rest
     c.self.inside.pairs.keys is whole
-    (ascending-pairs g.K.Ord.cmp g.K.ShortKeys.sort_keys g.met.K.ShortKeys.ordered c.self.inside.pairs.keys _ refl
+    (ascending-pairs g.K.Ord.cmp nat_cmp g.K.ShortKeys.sort_keys g.met.K.ShortKeys.ordered c.self.inside.pairs.keys _ refl
     c.len-size.ensures.ordered)
     ∙ c.self.view_is

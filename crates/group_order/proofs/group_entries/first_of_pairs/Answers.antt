@@ -1,0 +1,31 @@
+use Rattle.std.proofs.Common.{◌≡◌, ap, sym, ◌∙◌, take, length, ◌≤◌, List, map, arith, ℕ}
+use Rattle.std.proofs.lemmas.List.{take_all}
+use Rattle.std.proofs.lemmas.Map.Iter.{iter_end}
+use Rattle.std.specs.Map.Iter.{deref}
+use Rattle.group_order.specs.EntryForms.{ShortPair}
+use Rattle.group_order.proofs.group_entries.first_of_pairs.Goals as goal
+use Rattle.group_order.proofs.group_entries.first_of_pairs.Goals.{in-None, in-Some+then-len-most}
+
+all-taken : (ps : List (ShortPair)) (n m : ℕ) → length ps ≤ n → length ps ≤ m → take n ps ≡ take m ps
+all-taken ps n m h l = take_all n ps h ∙ sym (take_all m ps l)
+
+pub returns : goal.returns
+returns c =
+    let inv = c.loop-key.invariant in
+    elim c.match-next.branch [
+      | in-None w ↦
+          let start =
+          c.into_iter-key-iterator.ensures.into_iter_gives ∙ c.iter-key-items.ensures.rest in
+          let e =
+          (iter_end deref c.args.pairs.now.keys c.loop-key.yielded _ _ _ _ start c.loop-key.yielded_by
+          w.in-None.is c.next.ensures.steps).1 in
+          let bound = inv.1.0 in
+          let all =
+          all-taken c.args.pairs.now.keys (length c.loop-key.yielded) c.args.most (omega (arith, e))
+          (omega (arith, e, bound)) in
+          inv.1.1 ∙ ap (map (λ (p : ShortPair). p.1)) all
+      | in-Some+then-len-most w ↦
+          let e : length c.loop-key.yielded ≡ c.args.most =
+          sym inv.0 ∙ sym c.loop-key.tuples.ok.0 ∙ sym w.len-in-loop-key.ensures ∙ w.if-len-most.true in
+          inv.1.1 ∙ ap (λ (n : ℕ). map (λ (p : ShortPair). p.1) (take n c.args.pairs.now.keys)) e
+    ]
