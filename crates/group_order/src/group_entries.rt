@@ -118,7 +118,7 @@ fn insert(
     ensures { OnOk result
         (entries_in form.new ≡ insert_key group_entry_cmp (entries_in form.old) (sort_keys, tuple)) }
 {
-    let mut entries = match form {
+    let mut wide = match form {
         Form::Short(pairs) => match sort_keys.short() {
             Some(key) => {
                 pairs.insert((key, tuple))?;
@@ -131,8 +131,8 @@ fn insert(
             return Ok(());
         }
     };
-    entries.insert(GroupEntry::new(sort_keys, tuple))?;
-    *form = Form::Entries(entries);
+    wide.insert(GroupEntry::new(sort_keys, tuple))?;
+    *form = Form::Entries(wide);
     Ok(())
 }
 
@@ -156,7 +156,7 @@ fn remove(
         (entries_in form.new ≡ remove_key (is_at (group_entry_cmp (sort_keys, tuple))) (entries_in form.old)) }
     ensures tuple { IfOk result (λ t. t ≡ tuple) }
 {
-    let mut entries = match form {
+    let mut wide = match form {
         Form::Short(pairs) => match sort_keys.short() {
             Some(key) => {
                 let pair = (key, tuple);
@@ -169,8 +169,8 @@ fn remove(
             return Ok(remove_entry(entries, GroupEntry::new(sort_keys, tuple)));
         }
     };
-    let tuple = remove_entry(&mut entries, GroupEntry::new(sort_keys, tuple));
-    *form = Form::Entries(entries);
+    let tuple = remove_entry(&mut wide, GroupEntry::new(sort_keys, tuple));
+    *form = Form::Entries(wide);
     Ok(tuple)
 }
 
