@@ -18,7 +18,7 @@ pub fn column_cells<'a>(
 ) -> Result<Vec<Option<&'a Value>>, AllocError>
     ensures { IfOk result (λ cells. cells_of cells.items ≡ map (part j) (row_cells (map (λ r. r.items) rows.now))) }
 {
-    let mut cells = Vec::new(alloc);
+    let mut cells = Vec::with_capacity(alloc, rows.len())?;
     for row in rows {
         cells.push(row.get(j))?;
     }

@@ -76,12 +76,17 @@ pub fn truths(alloc: Global, cells: &[Option<&Value>]) -> Result<Bitmap, AllocEr
     Ok(bits)
 }
 
+/// Appends a number. One of 64 bits, as most are, is written at once, since its length is known here.
 fn push_number(buffer: &mut Vec<u8>, number: i128, width: usize) -> Result<(), AllocError>
     requires some { 1 ≤ width }
     requires few { width ≤ 16 }
     ensures { OnOk result (buffer.new.items ≡ buffer.old.items ++ little_bytes width (low_bytes w128 width number)) }
 {
     let mut bytes = [0u8; 16];
+    if width == 8 {
+        LittleEndian::write_int128(&mut bytes, number, 8);
+        return buffer.extend_from_slice(&bytes[..8]);
+    }
     LittleEndian::write_int128(&mut bytes, number, width);
     buffer.extend_from_slice(&bytes[..width])
 }
@@ -202,7 +207,7 @@ fn parts<'a>(
 ) -> Result<Vec<Option<&'a Value>>, AllocError>
     ensures { IfOk result (λ all. cells_of all.items ≡ map (part_of j) (cells_of cells.now)) }
 {
-    let mut all = Vec::new(alloc);
+    let mut all = Vec::with_capacity(alloc, cells.len())?;
     for cell in cells {
         all.push(slots::part(*cell, j))?;
     }
