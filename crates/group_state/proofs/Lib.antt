@@ -27,5 +27,6 @@ pub mod SampleFits
 pub mod Taken
 pub mod Totals
 pub mod TupleRanks
+pub mod RankedTuples
 pub mod Touched
 pub mod Under

@@ -95,10 +95,13 @@ impl Ord for Tuple {
     ghost matches_eq = { λ x y. refl };
 
     fn cmp(&self, other: &Tuple) -> Ordering {
-        match self.rank.cmp(&other.rank) {
-            Ordering::Equal => cmp_keys(&self.keys, &other.keys),
-            unlike => unlike,
+        if self.rank > other.rank {
+            return Ordering::Greater;
         }
+        if self.rank < other.rank {
+            return Ordering::Less;
+        }
+        cmp_keys(&self.keys, &other.keys)
     }
 }
 
