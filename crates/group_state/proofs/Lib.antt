@@ -28,5 +28,6 @@ pub mod Taken
 pub mod Totals
 pub mod TupleRanks
 pub mod RankedTuples
+pub mod FirstRows
 pub mod Touched
 pub mod Under

@@ -714,14 +714,37 @@ fn put_row<R: RowView, S: GroupReader>(
         let after = reader.read(alloc, &GroupRow::new(outputs, columns, tuple, group))?;
         return Ok(Readings { before, after });
     }
-    let mut group = Group::new(alloc, columns)?;
-    group.add(alloc, columns, row)?;
-    let after = reader.read(alloc, &GroupRow::new(outputs, columns, tuple, &group))?;
-    groups.insert(tuple.copy(alloc)?, group)?;
+    let after = put_first_row(groups, alloc, columns, tuple, row, outputs, reader)?;
     Ok(Readings {
         before: None,
         after,
     })
+}
+
+/// Makes the group of a row that is the first of its tuple. Returns what is read from the group.
+#[inline(never)]
+fn put_first_row<R: RowView, S: GroupReader>(
+    groups: &mut BTreeMap<Tuple, Group>,
+    alloc: Global,
+    columns: &[AccumulatedColumn],
+    tuple: &Tuple,
+    row: &R,
+    outputs: &[GroupOutput],
+    reader: &S,
+) -> Result<Option<S::Read>, AllocError>
+    requires { group_at groups.old.entries tuple.now ≡ None }
+    ensures here { OnOk result (KeepsUnder columns.now groups.new.entries tuple.now (R.cells row.now ∷ [])) }
+    ensures others { OnOk result ((t : List Key) → is_at (tuple_cmp tuple.now) t ≡ false → group_at groups.new.entries t
+        ≡ group_at groups.old.entries t) }
+    ensures after { IfOk result (λ read. read
+        ≡ read_under (S.reads reader.now) columns.now outputs.now groups.new.entries tuple.now) }
+{
+    let mut group = Group::new(alloc, columns)?;
+    group.add(alloc, columns, row)?;
+    let after = reader.read(alloc, &GroupRow::new(outputs, columns, tuple, &group))?;
+    let copy = tuple.copy(alloc)?;
+    groups.insert(copy, group)?;
+    Ok(after)
 }
 
 /// Removes a row from the group of its tuple, and the group with its last row. Returns what is read from the group

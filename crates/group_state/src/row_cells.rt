@@ -51,6 +51,7 @@ pub(crate) fn key_at<R: RowView>(
 
 /// The key in a row's cell of a column; `None` where that is null, a list or a struct.
 #[tactic(auto, using(values::proofs::ShallowLemmas::shallow_laws))]
+#[inline(always)]
 pub(crate) fn filled_key_at<R: RowView>(
     alloc: Global,
     row: &R,
