@@ -60,3 +60,5 @@ mod ChangeKinds
 pub mod NumberRanges
 mod NamedRows
 mod LocatedRows
+mod StretchRows
+mod SideLookups

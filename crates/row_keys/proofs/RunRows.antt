@@ -263,7 +263,7 @@ run_at cs p to c is has =
 
 -- A row's index fits into a machine word.
 
-rising_long : (from end : ℕ) (ns : List ℕ) → AreRising from ns end → from + length ns ≤ end
+pub rising_long : (from end : ℕ) (ns : List ℕ) → AreRising from ns end → from + length ns ≤ end
 rising_long from end [] are = omega (arith, are)
 rising_long from end (n ∷ ns) are =
     let rest = rising_long (suc n) end ns are.1 in

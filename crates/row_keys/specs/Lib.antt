@@ -21,3 +21,5 @@ pub mod Runs
 pub mod TableChanges
 pub mod HiddenChanges
 pub mod Locations
+pub mod LookedUp
+pub mod Stretches

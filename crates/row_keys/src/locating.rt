@@ -1,13 +1,14 @@
 //! Where single rows lie in chunks, each found by its number.
 
-ghost use Rattle.std.specs.Prelude.{◌≡◌, ℕ, ◌<◌, [], All, IfOk, IfSome, MatchOption, length, map};
+ghost use Rattle.std.specs.Prelude.{◌≡◌, ℕ, ◌<◌, All, IfOk, IfSome, length, map};
 ghost use Rattle.body_writer.specs.Locations.{IsLocated, IsRowAt, located_rows};
-ghost use Rattle.row_keys.specs.Chunks.{AreChunks, LiesAt, row_in};
+ghost use Rattle.row_keys.specs.Chunks.{AreChunks, row_in};
 ghost use Rattle.row_keys.specs.Locations.{AreAtLocations, AreBatches, IsAtLocation, MayBeAtLocations, row_if};
+ghost use Rattle.row_keys.specs.Stretches.{HasNumber, IsStretch, IsStretchWith};
 
-use crate::runs::locate_near;
 use crate::stored_chunk::StoredChunk;
 use crate::stored_rows::Location;
+use crate::stretches::{NO_NUMBERS, Stretch, has_number, row_of, stretch_near};
 use body_writer::{Batch, RowLocation};
 use std::alloc::{AllocError, Global};
 
@@ -29,8 +30,8 @@ fn mean_span(chunks: &[StoredChunk]) -> usize
     numbers.div_ceil(chunks.len().max(1)).max(1)
 }
 
-/// Where the row of this number is looked for first: in the chunk at index `near` if that spans the number, and otherwise
-/// where it would be if each chunk had this many numbers.
+/// Where the row of this number is looked for first: in the chunk at index `near` if that spans the number, and
+/// otherwise where it would be if each chunk had this many numbers.
 fn likely_location(chunks: &[StoredChunk], near: usize, span: usize, number: usize) -> Location
     requires span { 0 < span }
 {
@@ -46,13 +47,20 @@ fn likely_location(chunks: &[StoredChunk], near: usize, span: usize, number: usi
     }
 }
 
-/// Where the row of this number lies, if it is retained.
-fn locate_from(chunks: &[StoredChunk], near: usize, span: usize, number: usize) -> Option<Location>
+/// A stretch that has this number, whose row is retained: this one, if it has it.
+#[inline(always)]
+fn step(chunks: &[StoredChunk], stretch: Stretch, span: usize, number: usize) -> Stretch
     requires chunks { (len : ℕ) × AreChunks 0 chunks.now len }
     requires span { 0 < span }
-    ensures { MatchOption result (row_in chunks.now number ≡ []) (λ at. LiesAt chunks.now number at.chunk at.index) }
+    requires stretch { IsStretch chunks.now stretch }
+    requires kept { 0 < length (row_in chunks.now number) }
+    ensures { IsStretchWith chunks.now number result }
 {
-    locate_near(chunks, likely_location(chunks, near, span, number), number)
+    if has_number(stretch, number) {
+        return stretch;
+    }
+    let near = likely_location(chunks, stretch.chunk, span, number);
+    stretch_near(chunks, near, number).unwrap()
 }
 
 /// The locations of the rows of these numbers, which are retained.
@@ -66,14 +74,13 @@ fn find_locations(
     ensures { IfOk result (λ locations. AreAtLocations chunks.now numbers.now locations.items) }
 {
     let span = mean_span(chunks);
-    let mut near = 0;
+    let mut stretch = NO_NUMBERS;
     let mut locations = Vec::with_capacity(alloc, numbers.len())?;
     for number in numbers {
-        let at = locate_from(chunks, near, span, *number).unwrap();
-        near = at.chunk;
+        stretch = step(chunks, stretch, span, *number);
         locations.push(RowLocation {
-            batch: at.chunk,
-            row: at.index,
+            batch: stretch.chunk,
+            row: row_of(stretch, *number),
         })?;
     }
     Ok(locations)
@@ -108,23 +115,38 @@ pub(crate) fn locate_rows<'a>(
     Ok(StoredLocations { batches, locations })
 }
 
-/// The location of the row of this number, which is retained; one in no chunk where there is no number.
-fn place_if(chunks: &[StoredChunk], near: usize, span: usize, number: Option<usize>) -> RowLocation
+/// A stretch that has this number, if there is one, whose row is retained: this one, if it has it.
+#[inline(always)]
+fn step_if(chunks: &[StoredChunk], stretch: Stretch, span: usize, number: Option<usize>) -> Stretch
     requires chunks { (len : ℕ) × AreChunks 0 chunks.now len }
     requires span { 0 < span }
+    requires stretch { IsStretch chunks.now stretch }
     requires kept { IfSome number (λ n. 0 < length (row_in chunks.now n)) }
+    ensures stretch { IsStretch chunks.now result }
+    ensures number { IfSome number (HasNumber result) }
+{
+    match number {
+        Some(number) => step(chunks, stretch, span, number),
+        None => stretch,
+    }
+}
+
+/// The location of the row of this number, which the stretch has; one in no chunk where there is no number.
+#[inline(always)]
+fn place_if(chunks: &[StoredChunk], stretch: Stretch, number: Option<usize>) -> RowLocation
+    requires stretch { IsStretch chunks.now stretch }
+    requires number { IfSome number (HasNumber stretch) }
     ensures { IsAtLocation chunks.now number result }
 {
-    let Some(number) = number else {
-        return RowLocation {
+    match number {
+        Some(number) => RowLocation {
+            batch: stretch.chunk,
+            row: row_of(stretch, number),
+        },
+        None => RowLocation {
             batch: chunks.len(),
             row: 0,
-        };
-    };
-    let found = locate_from(chunks, near, span, number).unwrap();
-    RowLocation {
-        batch: found.chunk,
-        row: found.index,
+        },
     }
 }
 
@@ -139,12 +161,11 @@ fn find_locations_if(
     ensures { IfOk result (λ locations. MayBeAtLocations chunks.now numbers.now locations.items) }
 {
     let span = mean_span(chunks);
-    let mut near = 0;
+    let mut stretch = NO_NUMBERS;
     let mut locations = Vec::with_capacity(alloc, numbers.len())?;
     for number in numbers {
-        let place = place_if(chunks, near, span, *number);
-        near = place.batch;
-        locations.push(place)?;
+        stretch = step_if(chunks, stretch, span, *number);
+        locations.push(place_if(chunks, stretch, *number))?;
     }
     Ok(locations)
 }

@@ -4,9 +4,11 @@ ghost use Rattle.std.specs.Prelude.{◌≡◌, ℕ, ◌^◌, ◌<◌, ◌≤◌,
 ghost use Rattle.body_writer.specs.RowRanges.{IsRange, ranges_rows};
 ghost use Rattle.row_keys.specs.Chunks.{AreChunks, LiesAt, LiesIn, row_in};
 ghost use Rattle.row_keys.specs.Runs.{HasRun, IsWideAt, run_rows};
+ghost use Rattle.row_keys.specs.Stretches.{IsStretch, IsStretchWith};
 
 use crate::stored_chunk::StoredChunk;
 use crate::stored_rows::{Location, chunk_of, index_in};
+use crate::stretches::{NO_NUMBERS, Stretch, has_number, row_of, stretch_near};
 use body_writer::RowRange;
 use std::alloc::{AllocError, Global};
 
@@ -65,6 +67,25 @@ fn push_run<'a>(
     Ok(())
 }
 
+/// A stretch that has this number, whose row is retained: this one, if it has it. The row is looked for after the run
+/// first.
+#[inline(always)]
+fn step(chunks: &[StoredChunk], stretch: Stretch, run: Run, number: usize) -> Stretch
+    requires chunks { (len : ℕ) × AreChunks 0 chunks.now len }
+    requires stretch { IsStretch chunks.now stretch }
+    requires kept { 0 < length (row_in chunks.now number) }
+    ensures { IsStretchWith chunks.now number result }
+{
+    if has_number(stretch, number) {
+        return stretch;
+    }
+    let near = Location {
+        chunk: run.chunk,
+        index: run.to,
+    };
+    stretch_near(chunks, near, number).unwrap()
+}
+
 /// Where the rows of these numbers lie, which are retained, in ranges of consecutive rows.
 pub(crate) fn find_ranges<'a>(
     alloc: Global,
@@ -83,20 +104,18 @@ pub(crate) fn find_ranges<'a>(
         from: 0,
         to: 0,
     };
+    let mut stretch = NO_NUMBERS;
     for number in numbers {
-        let near = Location {
-            chunk: run.chunk,
-            index: run.to,
-        };
-        let at = locate_near(chunks, near, *number).unwrap();
-        if at.chunk == run.chunk && at.index == run.to {
+        stretch = step(chunks, stretch, run, *number);
+        let row = row_of(stretch, *number);
+        if stretch.chunk == run.chunk && row == run.to {
             run.to += 1;
         } else {
             push_run(chunks, run, &mut ranges)?;
             run = Run {
-                chunk: at.chunk,
-                from: at.index,
-                to: at.index + 1,
+                chunk: stretch.chunk,
+                from: row,
+                to: row + 1,
             };
         }
     }

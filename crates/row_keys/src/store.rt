@@ -39,6 +39,7 @@ ghost use Rattle.row_keys.specs.Batches.{AreKeys, IsBatch, batch_rows};
 ghost use Rattle.row_keys.specs.Numbered.{numbered};
 ghost use Rattle.row_keys.specs.Parts.{AreStoreParts, store_with};
 ghost use Rattle.row_keys.specs.Locations.{row_if};
+ghost use Rattle.row_keys.specs.LookedUp.{AreLive, found_rows, row_for};
 ghost use Rattle.row_keys.specs.Slots.{
   AllOut,
   CanPutBack,
@@ -84,6 +85,7 @@ use crate::key_columns::{
 };
 use crate::layouts::table_layouts;
 use crate::locating::StoredLocations;
+use crate::looking_up::look_up_all;
 use crate::numbers::Numbers;
 use crate::parts::{StoreParts, make_numbers, renumbered};
 use crate::stored_row::{StoredRow, Visit, Visits};
@@ -576,13 +578,6 @@ impl RowStore {
         Visit::new(number)
     }
 
-    /// Looks for rows first where a visited row lies, from now on.
-    pub fn seek(&mut self, visit: &Visit)
-        ensures { self.new ≡ self.old }
-    {
-        self.rows.seek(visit.number());
-    }
-
     /// The row that is visited where it lies, live or retracted. A released row has no cells.
     pub fn row(&self, visit: Visit) -> StoredRow<'_>
         requires { visit < length self.now.slots }
@@ -603,13 +598,41 @@ impl RowStore {
 
     /// Where the visited rows lie, which are live, in ranges of consecutive rows. Each lies in as many columns as the
     /// table has.
+    fn visited_ranges(&self, visits: &Visits) -> Result<Vec<RowRange<'_>>, AllocError>
+        requires { All (IsLiveAt self.now.slots) visits.now }
+        ensures rows { IfOk result (λ ranges. ranges_rows ranges.items ≡ map (row_of self.now.slots) visits.now) }
+        ensures ranges { IfOk result (λ ranges. All (IsRange (length self.now.table.columns)) ranges.items) }
+    {
+        let _table = &self.table;
+        self.rows.ranges(self.alloc, visits.numbers())
+    }
+
+    /// Where the visited rows lie, which are live, in ranges of consecutive rows. Each lies in as many columns as the
+    /// table has.
     pub fn ranges(&self, visits: Visits) -> Result<Vec<RowRange<'_>>, AllocError>
         requires { All (IsLiveAt self.now.slots) visits }
         ensures rows { IfOk result (λ ranges. ranges_rows ranges.items ≡ map (row_of self.now.slots) visits) }
         ensures ranges { IfOk result (λ ranges. All (IsRange (length self.now.table.columns)) ranges.items) }
     {
-        let _table = &self.table;
-        self.rows.ranges(self.alloc, visits.numbers())
+        self.visited_ranges(&visits)
+    }
+
+    /// The numbers of a side table's live rows that visited rows look up by their cells of column `on`, where there are
+    /// such rows. The visited rows are live.
+    pub fn look_up(
+        &self,
+        visits: &Visits,
+        on: usize,
+        side: &RowStore,
+    ) -> Result<Vec<Option<usize>>, AllocError>
+        requires live { All (IsLiveAt self.now.slots) visits.now }
+        requires side { IsSideTable side.now.table }
+        ensures rows { IfOk result (λ numbers. found_rows side.now numbers.items
+            ≡ map (row_for side.now on) (map (row_of self.now.slots) visits.now)) }
+        ensures live { IfOk result (λ numbers. AreLive side.now numbers.items) }
+    {
+        let ranges = self.visited_ranges(visits)?;
+        look_up_all(self.alloc, side, on, &ranges, visits.len())
     }
 
     /// Where the visited rows lie, which are live: each by itself. Each lies in as many columns as the table has.
@@ -651,7 +674,7 @@ impl RowStore {
     }
 
     /// The number of the live row with this key. Null is no row's key.
-    fn number_with(&self, key: &Key) -> Option<usize>
+    pub(crate) fn number_with(&self, key: &Key) -> Option<usize>
         ensures { MatchOption result (IsUnknown self.now (datum_of_key key.now))
             (IsKnown self.now (datum_of_key key.now)) }
     {

@@ -1,6 +1,6 @@
 //! Borrowed views of stored rows.
 
-ghost use Rattle.std.specs.Prelude.{◌≡◌, ◌+◌, ◌<◌, All, IfOk, get_or, length, nat_eq};
+ghost use Rattle.std.specs.Prelude.{◌≡◌, ◌+◌, ◌<◌, All, IfOk, length, nat_eq};
 ghost use Rattle.schema_meta.specs.Rows.{row_at};
 ghost use Rattle.values.specs.CellViews.{shallow, viewed};
 ghost use Rattle.view_lang.specs.Cells.{cell_at as cell_by};
@@ -87,7 +87,7 @@ impl<'a> RowView for StoredRow<'a> {
 
 /// Cell `index` of a column; null where there is no such column.
 #[tactic(auto, using(crate::proofs::CellsInPlace::cells_in_place))]
-fn cell_at(columns: &[Column], column: usize, index: usize) -> CellView<'_>
+pub(crate) fn cell_at(columns: &[Column], column: usize, index: usize) -> CellView<'_>
     requires { All (λ c. index < length c.cells) columns.now }
     ensures { viewed result ≡ shallow (cell_by (row_at (cells_in columns.now) index) column) }
 {
@@ -198,14 +198,6 @@ impl Visits {
         ensures { result ≡ length self.now }
     {
         self.numbers.len()
-    }
-
-    /// The visit of one of the rows. It is one of those that were counted.
-    pub fn at(&self, place: usize) -> Visit
-        requires { place < length self.now }
-        ensures { result ≡ get_or self.now place 0 }
-    {
-        Visit::new(self.numbers[place])
     }
 
     /// How many runs of rows with consecutive numbers there are.

@@ -57,7 +57,7 @@ use crate::joined_row::JoinedRow;
 use crate::shown::{JoinedColumns, Shown, StoredColumns, are_many, shown_columns, shows_stored};
 use crate::view_state::{Materialized, ViewState};
 use group_order::RankedGroups;
-use row_keys::{RowStore, Visit, Visits, numbers_law};
+use row_keys::{RowStore, Visits, numbers_law};
 use std::alloc::{AllocError, Global};
 use top_rows::Ordered;
 use values::limits::MAX_MAIN_ROWS;
@@ -177,61 +177,20 @@ fn push_some(rows: &mut Vec<Row>, row: Option<Row>) -> Result<(), AllocError>
     }
 }
 
-/// The number of the side table's row that is looked up for a visited row, if there is one.
-fn side_number(
-    stores: &[RowStore],
-    lookup: Lookup,
-    visit: Visit,
-    keys: &mut KeyBuffer,
-) -> Result<Option<usize>, AllocError>
-    requires lookup { IsLookup (tables_in stores.now) (Some lookup) }
-    requires there { visit < length (main_slots stores.now) }
-    ensures row { IfOk result (λ number. option_map (row_of (slots_in stores.now (suc lookup.side))) number
-        ≡ row_beside stores.now lookup visit) }
-    ensures live { IfOk result
-        (λ number. IfSome number (IsLiveAt (slots_in stores.now (suc lookup.side)))) }
-{
-    let row = stores[0].row(visit);
-    stores[lookup.side + 1].number_with_key(keys, row.cell(lookup.on))
-}
-
-/// Looks for rows of the main table first where a visited row lies, from now on.
-fn seek(stores: &mut Vec<RowStore>, visit: &Visit)
-    requires { 0 < length stores.old.items }
-    ensures { stores.new.items ≡ stores.old.items }
-{
-    stores[0].seek(visit);
-}
-
-/// One of this many joined rows is sought. Most of the others lie in the chunk of the row that was sought last, where they
-/// are found at once.
-const ROWS_PER_SEEK: usize = 64;
-
-/// The numbers of the side table's rows that are looked up for visited rows, where there are such rows.
+/// The numbers of the side table's rows that are looked up for visited rows, which are live, where there are such rows.
 fn side_numbers(
-    alloc: Global,
-    stores: &mut Vec<RowStore>,
+    stores: &[RowStore],
     lookup: Lookup,
     visits: &Visits,
 ) -> Result<Vec<Option<usize>>, AllocError>
-    requires main { 0 < length stores.old.items }
-    requires lookup { IsLookup (tables_in stores.old.items) (Some lookup) }
-    requires there { All (λ n. n < length (main_slots stores.old.items)) visits.now }
-    ensures rows { IfOk result (λ numbers. AreLookedUp stores.old.items lookup visits.now numbers.items) }
+    requires main { 0 < length stores.now }
+    requires lookup { IsLookup (tables_in stores.now) (Some lookup) }
+    requires live { All (IsLiveAt (main_slots stores.now)) visits.now }
+    ensures rows { IfOk result (λ numbers. AreLookedUp stores.now lookup visits.now numbers.items) }
     ensures live { IfOk result
-        (λ numbers. All (λ o. IfSome o (IsLiveAt (slots_in stores.old.items (suc lookup.side)))) numbers.items) }
-    ensures same { stores.new.items ≡ stores.old.items }
+        (λ numbers. All (λ o. IfSome o (IsLiveAt (slots_in stores.now (suc lookup.side)))) numbers.items) }
 {
-    let mut keys = KeyBuffer::new(alloc);
-    let mut numbers = Vec::with_capacity(alloc, visits.len())?;
-    for place in 0..visits.len() {
-        let visit = visits.at(place);
-        if place % ROWS_PER_SEEK == 0 {
-            seek(stores, &visit);
-        }
-        numbers.push(side_number(stores, lookup, visit, &mut keys)?)?;
-    }
-    Ok(numbers)
+    stores[0].look_up(visits, lookup.on, &stores[lookup.side + 1])
 }
 
 /// Whether a view that looks up rows of a side table is written column by column for this many rows, from where they
@@ -255,8 +214,8 @@ fn visit_all(stores: &mut Vec<RowStore>, numbers: Vec<usize>) -> Visits
     stores[0].visit_all(numbers)
 }
 
-/// The columns of joined rows that a plain view with these outputs shows for the rows of these numbers. Only these are
-/// visited.
+/// The columns of joined rows that a plain view with these outputs shows for the rows of these numbers, which are live.
+/// Only these are visited.
 fn show_joined(
     alloc: Global,
     stores: &mut Vec<RowStore>,
@@ -266,14 +225,14 @@ fn show_joined(
 ) -> Result<JoinedColumns, AllocError>
     requires main { 0 < length stores.old.items }
     requires lookup { IsLookup (tables_in stores.old.items) (Some lookup) }
-    requires there { All (λ n. n < length (main_slots stores.old.items)) numbers.items }
+    requires live { All (IsLiveAt (main_slots stores.old.items)) numbers.items }
     ensures joined { IfOk result (JoinsWith stores.old.items lookup outputs.now numbers.items) }
     ensures same_rows { HaveSameRows stores.old.items stores.new.items }
     ensures visits { visits_in stores.new.items ≤ visits_in stores.old.items + length numbers.items }
 {
     let columns = shown_columns(alloc, outputs)?;
     let visits = visit_all(stores, numbers);
-    let side_numbers = side_numbers(alloc, stores, lookup, &visits)?;
+    let side_numbers = side_numbers(stores, lookup, &visits)?;
     Ok(JoinedColumns {
         columns,
         visits,

@@ -1,6 +1,10 @@
 use Rattle.std.proofs.Common.{take}
 use Rattle.row_keys.specs.Locations.{MayBeAtLocations}
+use Rattle.row_keys.specs.Stretches.{IsStretch}
 use Rattle.row_keys.proofs.locating.find_locations_if.Given as goal
 
 abbrev pub invariant-loop-number : goal.invariant-loop-number
-invariant-loop-number l = MayBeAtLocations l.chunks (take l.number-index l.numbers) l.locations.items
+invariant-loop-number l = record {
+  places : MayBeAtLocations l.chunks (take l.number-index l.numbers) l.locations.items;
+  stretch : IsStretch l.chunks l.stretch;
+}
