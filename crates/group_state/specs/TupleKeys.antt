@@ -8,8 +8,13 @@ use Rattle.group_state.specs.declared.tuple.TupleKeys.TheVariants.{One, Many}
 
 -- the keys, in order
 abbrev pub keys_in : TupleKeys → List Key
-keys_in (One k) = k ∷ []
-keys_in (Many ks) = ks.items
+keys_in (One r k) = k ∷ []
+keys_in (Many r ks) = ks.items
+
+-- the rank that is stored with them
+abbrev pub rank_in : TupleKeys → ℕ
+rank_in (One r k) = r
+rank_in (Many r ks) = r
 
 -- The rank of a tuple is that of its first key, or 0 where it has none.
 abbrev pub IsTupleRank : List Key → ℕ → Type 0

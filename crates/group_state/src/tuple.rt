@@ -6,7 +6,7 @@ ghost use Rattle.view_lang.specs.Cells.{cell_at};
 ghost use Rattle.group_state.specs.Moves.{begins_with};
 ghost use Rattle.group_state.specs.Keys.{data_of, key_in, tuple_cmp};
 ghost use Rattle.group_state.specs.Rows.{cell};
-ghost use Rattle.group_state.specs.TupleKeys.{IsTupleRank, keys_in};
+ghost use Rattle.group_state.specs.TupleKeys.{IsTupleRank, keys_in, rank_in};
 ghost use Rattle.group_state.specs.Tuples.{tuple_of};
 
 use crate::cells::no_value;
@@ -18,11 +18,12 @@ use std::marker::Model;
 use values::{CellView, Key, Value};
 use view_lang::RowView;
 
-/// One key inline, or any number of them in one allocation.
+/// One key inline, or any number of them in one allocation, after the rank of the first key, which is 0 where there is
+/// none. In a variant the rank takes no space of its own.
 #[derive(Debug, Drop)]
 enum TupleKeys {
-    One(Key),
-    Many(Vec<RankedKey>),
+    One(u64, Key),
+    Many(u64, Vec<RankedKey>),
 }
 
 /// A grouping tuple: the keys of a row's cells in the grouping columns, in order, with the rank of the first, by which
@@ -30,13 +31,11 @@ enum TupleKeys {
 /// keys.
 #[derive(Debug, Drop)]
 pub struct Tuple {
-    /// The rank of the first key; 0 where there is none.
-    rank: u64,
     keys: TupleKeys,
 }
 
 impl Model for Tuple {
-    ghost use Rattle.group_state.specs.TupleKeys.{IsTupleRank, keys_in};
+    ghost use Rattle.group_state.specs.TupleKeys.{IsTupleRank, keys_in, rank_in};
     ghost use Rattle.std.specs.Prelude.{List};
     ghost use Rattle.values.specs.declared.key.Key.{Key};
 
@@ -44,7 +43,7 @@ impl Model for Tuple {
 
     ghost view = { λ t. keys_in t.keys };
 
-    ghost invariant = { λ t. IsTupleRank (keys_in t.keys) t.rank };
+    ghost invariant = { λ t. IsTupleRank (keys_in t.keys) (rank_in t.keys) };
 }
 
 impl PartialEq for Tuple {
@@ -95,10 +94,12 @@ impl Ord for Tuple {
     ghost matches_eq = { λ x y. refl };
 
     fn cmp(&self, other: &Tuple) -> Ordering {
-        if self.rank > other.rank {
+        let rank = rank_in(&self.keys);
+        let other_rank = rank_in(&other.keys);
+        if rank > other_rank {
             return Ordering::Greater;
         }
-        if self.rank < other.rank {
+        if rank < other_rank {
             return Ordering::Less;
         }
         cmp_keys(&self.keys, &other.keys)
@@ -130,8 +131,8 @@ impl Tuple {
         ensures { IfOk result (λ keys. keys.items ≡ self) }
     {
         match self.keys {
-            TupleKeys::One(key) => Ok(Vec::from_array(alloc, [key])?),
-            TupleKeys::Many(keys) => Ok(keys_of(alloc, keys)?),
+            TupleKeys::One(_, key) => Ok(Vec::from_array(alloc, [key])?),
+            TupleKeys::Many(_, keys) => Ok(keys_of(alloc, keys)?),
         }
     }
 
@@ -151,13 +152,12 @@ impl Tuple {
         ensures { IfOk result (λ t. t ≡ self.now) }
     {
         let keys = match &self.keys {
-            TupleKeys::One(key) => TupleKeys::One(key.copy(alloc)?),
-            TupleKeys::Many(keys) => TupleKeys::Many(copies_of(alloc, keys.as_slice())?),
+            TupleKeys::One(rank, key) => TupleKeys::One(*rank, key.copy(alloc)?),
+            TupleKeys::Many(rank, keys) => {
+                TupleKeys::Many(*rank, copies_of(alloc, keys.as_slice())?)
+            }
         };
-        Ok(Tuple {
-            rank: self.rank,
-            keys,
-        })
+        Ok(Tuple { keys })
     }
 
     /// Key `k`, if there is one.
@@ -165,9 +165,9 @@ impl Tuple {
         ensures { MatchOption result (length self.now ≤ k) (λ key. slice_get self.now k ≡ Some key.now) }
     {
         match &self.keys {
-            TupleKeys::One(key) if k == 0 => Some(key),
-            TupleKeys::One(_) => None,
-            TupleKeys::Many(keys) => Some(keys.get(k)?.key()),
+            TupleKeys::One(_, key) if k == 0 => Some(key),
+            TupleKeys::One(_, _) => None,
+            TupleKeys::Many(_, keys) => Some(keys.get(k)?.key()),
         }
     }
 
@@ -176,8 +176,8 @@ impl Tuple {
         ensures { result ≡ length self.now }
     {
         match &self.keys {
-            TupleKeys::One(_) => 1,
-            TupleKeys::Many(keys) => keys.len(),
+            TupleKeys::One(_, _) => 1,
+            TupleKeys::Many(_, keys) => keys.len(),
         }
     }
 
@@ -186,8 +186,7 @@ impl Tuple {
         ensures { result ≡ key ∷ [] }
     {
         Tuple {
-            rank: key_rank(&key),
-            keys: TupleKeys::One(key),
+            keys: TupleKeys::One(key_rank(&key), key),
         }
     }
 
@@ -195,8 +194,7 @@ impl Tuple {
         ensures { result ≡ keys.items }
     {
         Tuple {
-            rank: first_rank(&keys),
-            keys: TupleKeys::Many(keys),
+            keys: TupleKeys::Many(first_rank(&keys), keys),
         }
     }
 
@@ -238,6 +236,17 @@ impl Tuple {
     }
 }
 
+/// The rank that keys have with them.
+#[inline(always)]
+fn rank_in(keys: &TupleKeys) -> u64
+    ensures { result ≡ rank_in keys.now }
+{
+    match keys {
+        TupleKeys::One(rank, _) => *rank,
+        TupleKeys::Many(rank, _) => *rank,
+    }
+}
+
 /// The rank of the first of these keys; 0 where there is none.
 fn first_rank(keys: &[RankedKey]) -> u64
     ensures { IsTupleRank keys.now result }
@@ -267,10 +276,10 @@ fn cmp_keys(keys: &TupleKeys, others: &TupleKeys) -> Ordering
     ensures { result ≡ tuple_cmp (keys_in keys.now) (keys_in others.now) }
 {
     match (keys, others) {
-        (TupleKeys::One(key), TupleKeys::One(other)) => key.cmp(other),
-        (TupleKeys::Many(keys), TupleKeys::Many(others)) => keys.cmp(others),
-        (TupleKeys::One(key), TupleKeys::Many(others)) => cmp_one(key, others),
-        (TupleKeys::Many(keys), TupleKeys::One(other)) => cmp_one(other, keys).reverse(),
+        (TupleKeys::One(_, key), TupleKeys::One(_, other)) => key.cmp(other),
+        (TupleKeys::Many(_, keys), TupleKeys::Many(_, others)) => keys.cmp(others),
+        (TupleKeys::One(_, key), TupleKeys::Many(_, others)) => cmp_one(key, others),
+        (TupleKeys::Many(_, keys), TupleKeys::One(_, other)) => cmp_one(other, keys).reverse(),
     }
 }
 
