@@ -2,7 +2,7 @@
 """Processor time and memory of edits by `lv run`: rows that come in batches, beside `lv recast` of the same stream, and then edits of one row
 each over 10,000 and over 1,000,000 live rows; and of writing views of these. Rows are of int64, utf8 of 10 bytes, int64 and int64. Where valgrind is
 there, the instructions of an edit and of an undo too, which other work on the machine doesn't change, and how often each asks for memory. Then the
-times of a view of the first ten of 1,000, of 100,000 and of 1,000,000 groups in an order of theirs, and what each view takes by itself."""
+same of rows with 1,000 texts in turn, as they are loaded, the times of a view of the first ten of 1,000, of 100,000 and of 1,000,000 groups in an order of theirs, and what each view takes by itself."""
 
 import os
 import re
@@ -72,8 +72,10 @@ def integers(first, rows):
     return struct.pack(f"<{rows}q", *range(first, first + rows))
 
 
-def rows_from(first, rows, zones):
-    texts = [struct.pack(f"<{rows + 1}i", *range(0, 10 * (rows + 1), 10)), b"".join(b"%010d" % it for it in range(first, first + rows))]
+def rows_from(first, rows, zones, texts):
+    """Rows with texts in turn of so many."""
+    named = b"".join(b"%010d" % (it % texts) for it in range(first, first + rows))
+    texts = [struct.pack(f"<{rows + 1}i", *range(0, 10 * (rows + 1), 10)), named]
     places = struct.pack(f"<{rows}q", *(it % zones for it in range(first, first + rows)))
     return batch(rows, [[integers(first, rows)], texts, [integers(first, rows)], [places]])
 
@@ -83,9 +85,9 @@ def keys_from(first, rows):
 
 
 class Bench:
-    def __init__(self, folder, config, zones):
+    def __init__(self, folder, config, zones, texts=10**10):
         self.folder = folder
-        self.zones = zones
+        self.zones, self.texts = zones, texts
         self.write("config", config.encode())
 
     def path(self, name):
@@ -98,10 +100,10 @@ class Bench:
     def streams(self, live, edits):
         """A stream of so many live rows in batches of 1,024, and for each round one of rows to come one by one, and one that retracts
         them."""
-        each = [rows_from(first, min(1024, live - first), self.zones) for first in range(0, live, 1024)]
+        each = [rows_from(first, min(1024, live - first), self.zones, self.texts) for first in range(0, live, 1024)]
         self.write("rows", SCHEMA + b"".join(each) + END_MARK)
         for turn in range(ROUNDS):
-            self.write(f"more{turn}", SCHEMA + b"".join(rows_from(live + it, 1, self.zones) for it in range(edits)) + END_MARK)
+            self.write(f"more{turn}", SCHEMA + b"".join(rows_from(live + it, 1, self.zones, self.texts) for it in range(edits)) + END_MARK)
             self.write(f"gone{turn}", schema([NUMBER]) + b"".join(keys_from(live + it, 1) for it in range(edits)) + END_MARK)
 
     def command(self, feeds, views=(), undos=0):
@@ -202,6 +204,10 @@ def main():
                     each, loaded = count_edits(bench, count, edits // 20)
                     print(f"  {name} of an append, a retract, and the undo of either: " + ", ".join(f"{it:,.1f}" for it in each), end="")
                     print(f"; of a row that is loaded: {loaded / live:,.1f}")
+        bench = Bench(folder, CONFIG, ZONES, ZONES)
+        bench.streams(1_000_000, 0)
+        rows = bench.run(["rows"])
+        print(f"1,000,000 rows with {ZONES:,} texts in turn: {rows[0]:.2f} s, {rows[1] / 1_000_000:.0f} bytes a row")
         for groups in (1_000, 100_000, 1_000_000):
             time_ordered_groups(folder, groups, edits, 20_000)
         tell_views(folder, 1_000_000, edits // 20)
