@@ -1,8 +1,9 @@
 #!/usr/bin/env python3
 """Processor time and memory of edits by `lv run`: rows that come in batches, beside `lv recast` of the same stream, and then edits of one row
 each over 10,000 and over 1,000,000 live rows; and of writing views of these. Rows are of int64, utf8 of 10 bytes, int64 and int64. Where valgrind is
-there, the instructions of an edit and of an undo too, which other work on the machine doesn't change, and how often each asks for memory. Then the
-same of rows with 1,000 texts in turn, as they are loaded, the times of a view of the first ten of 1,000, of 100,000 and of 1,000,000 groups in an order of theirs, and what each view takes by itself."""
+there, the instructions of an edit and of an undo too, which other work on the machine doesn't change, and how often each asks for memory. Then
+such rows with 1,000 texts in turn as they are loaded, the times of a view of the first ten of 1,000, of 100,000 and of 1,000,000 groups in an
+order of theirs, and what each view takes by itself."""
 
 import os
 import re
