@@ -1,5 +1,6 @@
 mod Places
 mod KeyTables
+mod NumberTables
 mod Indexes
 mod IndexChanges
 pub mod KeyFacts

@@ -1,10 +1,8 @@
 -- What holds of the index of rows by number, where entries are stored for rows.
-use Rattle.std.proofs.Common.{◌≡◌, ℕ, ◌<◌, ◌+◌, ◌++◌, Bool, true, false, List, [], ◌∷◌, Option, None, Some, get_or, length, ap, sym, subst, ◌∙◌, arith, true≢false}
+use Rattle.std.proofs.Common.{◌≡◌, ℕ, ◌<◌, ◌+◌, ◌++◌, Bool, true, false, List, [], ◌∷◌, Some, get_or, length, ap, sym, subst, ◌∙◌, arith, true≢false}
 use Rattle.std.specs.Prelude.{◌-◌, ◌^◌, ◌≤◌, slice_get, slice_set}
 use Rattle.std.proofs.lemmas.List.{length-map}
-use Rattle.std.proofs.lemmas.Option.{get_or_from_slice_get, none-some, slice_get-get_or, slice_get_within}
-use denote.Ref.{Bor}
-use Rattle.std.specs.Option.{IsSome, option_copied}
+use Rattle.std.proofs.lemmas.Option.{get_or_from_slice_get, slice_get_within}
 use Rattle.values.specs.Datum.{is_null}
 use Rattle.values.specs.Keys.{datum_of_key}
 use Rattle.values.specs.declared.key.Key.{Key}
@@ -239,17 +237,5 @@ live_fits keys hs ks len live is =
     omega (arith, few, long, most)
 
 -- What is read from the table of keys
-
-copied_some : (o : Option (Bor Key)) (k : Key) → option_copied o ≡ Some k → IsSome o
-copied_some None k h = absurd (none-some k h)
-copied_some (Some v) k h = cc
-
-pub key_got :
-    (o : Option (Bor Key)) (keys : List Key) (p : ℕ) → option_copied o ≡ slice_get keys p → p < length keys → IsSome o
-key_got o keys p found within =
-    copied_some o (get_or keys p key.Null) (found ∙ slice_get-get_or keys p key.Null within)
-
-pub key_is :
-    (o : Option (Bor Key)) (v : Bor Key) (keys : List Key) (p : ℕ) → option_copied o ≡ slice_get keys p → o ≡ Some v
-    → v.now ≡ get_or keys p key.Null
-key_is o v keys p found is = sym (get_or_from_slice_get keys p v.now key.Null (sym found ∙ ap option_copied is))
+pub key_is : (keys : List Key) (p : ℕ) (k : Key) → slice_get keys p ≡ Some k → k ≡ get_or keys p key.Null
+key_is keys p k there = sym (get_or_from_slice_get keys p k key.Null there)

@@ -8,6 +8,8 @@ pub mod NumberLaws
 pub mod Store
 pub mod Batches
 pub mod KeyTable
+pub mod NumberKeys
+pub mod KeyForms
 pub mod Numbers
 pub mod Parts
 pub mod Index

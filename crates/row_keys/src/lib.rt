@@ -18,6 +18,8 @@ mod laws;
 mod layouts;
 mod locating;
 mod looking_up;
+mod mixed_keys;
+mod number_keys;
 mod numbers;
 mod parts;
 mod rewriting;

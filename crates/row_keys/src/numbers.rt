@@ -334,13 +334,14 @@ fn sweep(kept: &mut Vec<RetainedEntry>)
 }
 
 /// What is stored for a row.
+#[tactic(auto, using(crate::proofs::RetainedIndex::key_is))]
 fn row_of(alloc: Global, keys: &KeyTable, one: &RetainedEntry) -> Result<RowParts, AllocError>
     requires { one.now.entry.key < length keys.now }
     ensures { IfOk result (λ row. row ≡ part_of keys.now one.now) }
 {
     Ok(RowParts {
         number: one.number,
-        key: keys.get(one.entry.key).unwrap().copy(alloc)?,
+        key: keys.key_at(alloc, one.entry.key)?,
         is_live: one.entry.is_live,
     })
 }
@@ -418,13 +419,14 @@ impl Numbers {
         entry_at(&self.kept, number).is_live
     }
 
-    /// The key of a row: null where the row is released.
-    pub(crate) fn key(&self, number: usize) -> &Key
+    /// A copy of the key of a row: null where the row is released.
+    pub(crate) fn key(&self, alloc: Global, number: usize) -> Result<Key, AllocError>
         requires { number < length self.now }
-        ensures { result.now ≡ (get_or self.now number no_row).key }
+        ensures { IfOk result (λ key. key ≡ (get_or self.now number no_row).key) }
     {
         let entry = entry_at(&self.kept, number);
-        self.keys.get(entry.key).unwrap()
+        let key = self.keys.key_at(alloc, entry.key)?;
+        Ok(key)
     }
 
     /// What is stored for the rows, by their numbers.

@@ -745,7 +745,7 @@ impl RowStore {
         let _table = &self.table;
         let mut keys = Vec::with_capacity(self.alloc, numbers.len())?;
         for number in numbers {
-            keys.push(self.numbers.key(*number).copy(self.alloc)?)?;
+            keys.push(self.numbers.key(self.alloc, *number)?)?;
         }
         Ok(keys)
     }

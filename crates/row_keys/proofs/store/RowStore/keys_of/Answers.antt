@@ -1,4 +1,4 @@
-use Rattle.std.proofs.Common.{◌<◌, All, get_or, length, subst, sym, ◌∙◌}
+use Rattle.std.proofs.Common.{◌<◌, All, get_or, length, subst, sym}
 use Rattle.std.proofs.lemmas.List.Elements.{All-get_or}
 use Rattle.row_keys.specs.Store.{Store}
 use Rattle.row_keys.specs.Stored.{joined}
@@ -26,8 +26,8 @@ loop-number-preserved c =
     rw (← c.self.view_is)
     (key_more c.self.inside.table c.self.inside.rows
     c.self.inside.numbers c.args.numbers.now c.loop-number.number-index c.loop-number.keys.items
-    c.push.new.self.items c.in_ok-copy.field-0 c.self.invariant.keyed c.loop-number-test.true
+    c.push.new.self.items c.in_ok-key.field-0 c.self.invariant.keyed c.loop-number-test.true
     (number_within c.self.inside.table c.self.inside.rows c.self.inside.numbers
     (get_or c.args.numbers.now c.loop-number.number-index 0) c.self.invariant there).1
-    (rw (← c.self.view_is) at c.loop-number.invariant) (c.in_ok-copy.ensures
-    ∙ c.key.ensures) c.in_ok-push.ensures.items)
+    (rw (← c.self.view_is) at c.loop-number.invariant) c.in_ok-key.ensures
+    c.in_ok-push.ensures.items)

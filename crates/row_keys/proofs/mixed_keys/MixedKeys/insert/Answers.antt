@@ -2,7 +2,7 @@ use Rattle.std.proofs.Common.{List, subst}
 use Rattle.values.specs.declared.key.Key.{Key}
 use Rattle.row_keys.specs.KeyTable.{Inserts}
 use Rattle.row_keys.proofs.KeyTables.{apart_inserted, inserted}
-use Rattle.row_keys.proofs.key_table.KeyTable.insert.Goals as goal
+use Rattle.row_keys.proofs.mixed_keys.MixedKeys.insert.Goals as goal
 
 pub invariant_of-self-2 : goal.invariant_of-self-2
 invariant_of-self-2 c =
