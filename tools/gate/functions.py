@@ -28,11 +28,18 @@ def without_parameters(text):
     return text
 
 
+def name_of(text):
+    """The name of a type or a trait, as a check prints it: of a tuple how many types it has, and their names."""
+    names = re.findall(r"\w+", text)
+    if text.strip().startswith("("):
+        return "".join([f"Tuple{len(names)}", *names])
+    return names[-1] if names else ""
+
+
 def owner_of(head):
     """Of the head of an impl block its type, followed by its trait, as a check prints them."""
     head = re.split(r"\bwhere\b", without_parameters(head[re.search(r"\bimpl\b", head).end() :]))[0]
-    names = [re.findall(r"\w+", it) for it in reversed(re.split(r"\bfor\b", head))]
-    return "".join(it[-1] for it in names if it)
+    return "".join(name_of(it) for it in reversed(re.split(r"\bfor\b", head)))
 
 
 def module_of(path):
