@@ -96,9 +96,9 @@ def main():
         bench = Bench(folder)
         for view in VIEWS:
             each = [1e3 * (bench.seconds(view, MANY) - bench.seconds(view, FEW)) / (MANY - FEW) for _ in range(TURNS)]
-            print(f"view {view} of {LIVE:,} rows written: " + ", ".join(f"{it:.0f}" for it in each) + " ms", flush=True)
-        recast = sum(timed([LV, "recast", bench.path("out"), bench.path("again")]) for _ in range(RECASTS)) / RECASTS
-        print(f"recast of the last one: {1e3 * recast:.0f} ms")
+            recast = 1e3 * sum(timed([LV, "recast", bench.path("out"), bench.path("again")]) for _ in range(RECASTS)) / RECASTS
+            told = ", ".join(f"{it:.0f}" for it in each)
+            print(f"view {view} of {LIVE:,} rows written: {told} ms; a recast of what is written: {recast:.0f} ms", flush=True)
 
 
 if __name__ == "__main__":
