@@ -22,6 +22,9 @@ use Rattle.values.specs.declared.col_type.ColType.TheVariants as col
 use Rattle.values.specs.contracts.col_type.ColTypePartialEq.TheImpl as equality
 use Rattle.values.specs.TypeEquality.{TypesAreExact}
 
+different : false ≡ true → ⊥
+different h = cc
+
 abbrev type_eq : ColType → ColType → Bool
 type_eq = equality.ghosts.eq
 
@@ -40,7 +43,7 @@ equal-int int.Bits8 int.Bits8 h = refl
 equal-int int.Bits16 int.Bits16 h = refl
 equal-int int.Bits32 int.Bits32 h = refl
 equal-int int.Bits64 int.Bits64 h = refl
-equal-int w x h = absurd (cc)
+equal-int w x h = absurd (different h)
 
 same-offset : (o : OffsetWidth) → offset_equality.ghosts.eq o o ≡ true
 same-offset offset.Bits32 = refl
@@ -49,7 +52,7 @@ same-offset offset.Bits64 = refl
 equal-offset : (o q : OffsetWidth) → offset_equality.ghosts.eq o q ≡ true → o ≡ q
 equal-offset offset.Bits32 offset.Bits32 h = refl
 equal-offset offset.Bits64 offset.Bits64 h = refl
-equal-offset o q h = absurd (cc)
+equal-offset o q h = absurd (different h)
 
 same-date : (u : DateUnit) → date_equality.ghosts.eq u u ≡ true
 same-date date.Day = refl
@@ -58,7 +61,7 @@ same-date date.Millisecond = refl
 equal-date : (u v : DateUnit) → date_equality.ghosts.eq u v ≡ true → u ≡ v
 equal-date date.Day date.Day h = refl
 equal-date date.Millisecond date.Millisecond h = refl
-equal-date u v h = absurd (cc)
+equal-date u v h = absurd (different h)
 
 same-time : (u : TimeUnit) → time_equality.ghosts.eq u u ≡ true
 same-time time.Second = refl
@@ -71,7 +74,7 @@ equal-time time.Second time.Second h = refl
 equal-time time.Millisecond time.Millisecond h = refl
 equal-time time.Microsecond time.Microsecond h = refl
 equal-time time.Nanosecond time.Nanosecond h = refl
-equal-time u v h = absurd (cc)
+equal-time u v h = absurd (different h)
 
 same-type : (a : ColType) → type_eq a a ≡ true
 same-type col.Bool = refl
@@ -118,7 +121,7 @@ equal-types (col.Binary o) (col.Binary q) h = ap col.Binary (equal-offset o q h)
 equal-types (col.FixedSizeBinary w) (col.FixedSizeBinary x) h = ap col.FixedSizeBinary (eqb-true w x h)
 equal-types (col.List o) (col.List q) h = ap col.List (equal-offset o q h)
 equal-types col.Struct col.Struct h = refl
-equal-types a b h = absurd (cc)
+equal-types a b h = absurd (different h)
 
 pub types-exact : TypesAreExact
 types-exact a b = (equal-types a b, λ e. subst (λ x. type_eq a x ≡ true) e (same-type a))

@@ -9,6 +9,9 @@ use Rattle.values.specs.declared.key.Key.TheVariants as key
 use Rattle.values.specs.contracts.key.KeyPartialEq.TheImpl as equality
 use Rattle.values.specs.KeyOrder.{KeysAreExact, KeysAreOrdered}
 
+different : false ≡ true → ⊥
+different h = cc
+
 abbrev key_eq : Key → Key → Bool
 key_eq = equality.ghosts.eq
 
@@ -27,7 +30,7 @@ equal-keys (key.Int x) (key.Int y) h = ap key.Int ((signed_Decides x y).0 h)
 equal-keys (key.Utf8 x) (key.Utf8 y) h = ap key.Utf8 (same_text x y (sym h))
 equal-keys (key.Binary x) (key.Binary y) h = ap key.Binary (same_text x y (sym h))
 equal-keys key.Null key.Null h = refl
-equal-keys a b h = absurd (cc)
+equal-keys a b h = absurd (different h)
 
 pub keys-exact : KeysAreExact
 keys-exact a b = (equal-keys a b, λ e. subst (λ x. key_eq a x ≡ true) e (same-key a))
