@@ -35,7 +35,7 @@ use Rattle.values.specs.Weights.{weights}
 use Rattle.body_writer.proofs.WeightLemmas.{weights-long}
 use denote.Ref.{Bor}
 use Rattle.values.specs.Datum.{Datum, null, list, structure, items_of}
-use Rattle.body_writer.specs.Slots.{cell_of, cells_of, is_valid, items_in, null_count, listed, length_in, part}
+use Rattle.body_writer.specs.Slots.{cell_of, is_valid, items_in, null_count, listed, length_in, part}
 
 pub listed-items_of : (ds : List Datum) → listed (items_of ds) ≡ ds
 listed-items_of [] = refl
@@ -55,11 +55,12 @@ part-read (Some r) j ds c e is = e ∙ sym (part-listed j ds) ∙ ap (part j) (s
 
 pub ruleset reading = (length-listed, listed-items_of)
 
-pub cells-at : (cells : List (Option (Bor Datum))) (i : ℕ) (cell : Option (Bor Datum)) → i < length cells
+pub cells-at :
+    {C : Type 0} (datum : C → Datum) (cells : List C) (i : ℕ) (cell : C) → i < length cells
     → cell ≡ get_or cells i cell
-    → cells_of (drop i cells) ≡ cell_of cell ∷ cells_of (drop (i + 1) cells)
-cells-at cells i cell h e =
-    ap cells_of (drop_more cells i cell h) ∙ ap (λ c. cell_of c ∷ cells_of (drop (i + 1) cells)) (sym e)
+    → map datum (drop i cells) ≡ datum cell ∷ map datum (drop (i + 1) cells)
+cells-at datum cells i cell h e =
+    ap (map datum) (drop_more cells i cell h) ∙ ap (λ c. datum c ∷ map datum (drop (i + 1) cells)) (sym e)
 
 pub ruleset steps = (cells-at, length-map)
 
@@ -77,10 +78,10 @@ pub ruleset bits = (cells-at, length-map, validity-none, validity-some)
 -- after the last cell
 
 pub all-read :
-    {A : Type 0} (f : Datum → A) (cells : List (Option (Bor Datum))) (made : List A) (i : ℕ) → length cells ≤ i
-    → made ++ map f (cells_of (drop i cells)) ≡ map f (cells_of cells) → made ≡ map f (cells_of cells)
-all-read f cells made i h e =
-    sym (append-nil made) ∙ ap (λ rest. made ++ map f (cells_of rest)) (sym (drop_all i cells h)) ∙ e
+    {A C : Type 0} (f : Datum → A) (datum : C → Datum) (cells : List C) (made : List A) (i : ℕ) → length cells ≤ i
+    → made ++ map f (map datum (drop i cells)) ≡ map f (map datum cells) → made ≡ map f (map datum cells)
+all-read f datum cells made i h e =
+    sym (append-nil made) ∙ ap (λ rest. made ++ map f (map datum rest)) (sym (drop_all i cells h)) ∙ e
 
 pub items-read :
     (c : Datum) (ds items made before : List Datum) (i : ℕ) → c ≡ list (items_of ds) → items ≡ ds → length items ≤ i
@@ -89,9 +90,10 @@ items-read c ds items made before i is same h e =
     sym (append-nil made) ∙ ap (λ rest. made ++ rest) (sym (drop_all i items h)) ∙ e
     ∙ ap (λ xs. before ++ xs) (same ∙ sym (listed-items_of ds) ∙ ap items_in (sym is))
 
-pub few-cells : (t : Rose Layout) (cells : List (Option (Bor Datum))) → weights t (cells_of cells) < 2 ^ 31
+pub few-cells :
+    {C : Type 0} (datum : C → Datum) (t : Rose Layout) (cells : List C) → weights t (map datum cells) < 2 ^ 31
     → length cells < 2 ^ 31
-few-cells t cells h =
-    let same = length-map cells cell_of in
-    let long = weights-long t (cells_of cells) in
+few-cells datum t cells h =
+    let same = length-map cells datum in
+    let long = weights-long t (map datum cells) in
     omega (arith, same, long, h)

@@ -96,7 +96,7 @@ part-at columns i j h =
     ap (λ ds. get_or ds j null) (listed-items_of (row_at columns i))
     ∙ get_or-map (λ c. get_or c i null) columns j [] null h
 
-rows-column : (columns : List (List Datum)) (i n j : ℕ) (ds : List Datum) → j < length columns
+pub rows-column : (columns : List (List Datum)) (i n j : ℕ) (ds : List Datum) → j < length columns
     → get_or columns j [] ≡ ds
     → i + n ≤ length ds → map (part j) (row_cells (rows_from columns i n)) ≡ take n (drop i ds)
 unfolding rows_from
@@ -107,7 +107,7 @@ rows-column columns i (suc n) j ds h e room =
     let here = part-at columns i j h ∙ ap (λ c. get_or c i null) e in
     rw (here, rest) (sym (ap (take (suc n)) (drop_more ds i null inside)))
 
-rows-dropped : (columns : List (List Datum)) (at i n : ℕ) → i ≤ n
+pub rows-dropped : (columns : List (List Datum)) (at i n : ℕ) → i ≤ n
     → drop i (rows_from columns at n) ≡ rows_from columns (at + i) (n - i)
 unfolding rows_from
 rows-dropped columns at zero n h =
@@ -121,7 +121,7 @@ rows-dropped columns at (suc i) (suc n) h =
     rows-dropped columns (at + 1) i n (omega (arith, h)) ∙ ap (λ k. rows_from columns k (n - i)) a
     ∙ ap (rows_from columns (at + suc i)) b
 
-rows-taken : (columns : List (List Datum)) (at m n : ℕ) → m ≤ n
+pub rows-taken : (columns : List (List Datum)) (at m n : ℕ) → m ≤ n
     → take m (rows_from columns at n) ≡ rows_from columns at m
 unfolding rows_from
 rows-taken columns at zero n h = refl

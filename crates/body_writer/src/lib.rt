@@ -1,12 +1,12 @@
-//! The canonical buffers of columns of any layout, and the body of a batch, written from values or straight from
-//! checked columns.
+//! The canonical buffers of columns of any layout, and the body of a batch, written from values, from cells where they
+//! lie, or straight from checked columns.
 //!
 //! `specs/Columns.antt` says what the nodes and buffers of a column are, `specs/Body.antt` how buffers are laid out,
 //! `specs/Batch.antt` what the body of a batch is and which rows can be one, `specs/Law.antt` that a column that is
 //! written is read back. The laws are the contracts of [`column_law`] and its neighbours. Functions that write are
-//! named after their source: [`write_column_from_values`], [`write_body_from_columns`],
-//! [`write_body_from_picked_columns`] and [`write_body_from_locations`]. [`heaviest_row`] and [`weigh_row`] say which
-//! rows are too heavy to be written (`specs/Heavy.antt`).
+//! named after their source: [`write_column_from_values`], [`write_column_from_cells`] for a layout without children,
+//! [`write_body_from_columns`], [`write_body_from_picked_columns`] and [`write_body_from_locations`]. [`heaviest_row`]
+//! and [`weigh_row`] say which rows are too heavy to be written (`specs/Heavy.antt`).
 #![tactic(auto)]
 
 mod body;
@@ -26,6 +26,6 @@ pub use from_locations::location::{LocatedRows, RowLocation};
 pub use from_locations::plain::BatchArrays;
 pub use from_locations::write::{LocatedColumn, write_body_from_locations};
 pub use from_values::batch::column_cells;
-pub use from_values::column::write_column_from_values;
+pub use from_values::column::{write_column_from_cells, write_column_from_values};
 pub use laws::{column_law, count_law, holding_law, size_law};
 pub use weighing::{MAX_LIGHT_ROW, heaviest_row, weigh_row};

@@ -9,7 +9,6 @@ ghost use Rattle.body_writer.specs.Slots.{
   cell_of,
   cells_of,
   null_count,
-  fixed_in,
   items_in,
   total_length,
 };
@@ -25,7 +24,8 @@ ghost use Rattle.body_writer.specs.Columns.{
   child_cells as cells_of_child,
 };
 
-use crate::bytes::{push_offset, push_zeros};
+use crate::bytes::push_offset;
+use crate::from_values::cell::Cell;
 use crate::from_values::slots;
 use bitmaps::Bitmap;
 use byteorder::{ByteOrder, LittleEndian};
@@ -34,13 +34,13 @@ use values::{Kind, Layout, OffsetWidth, Value};
 
 /// How many cells are null.
 #[tactic(auto, using(crate::proofs::Cells::steps))]
-pub fn count_nulls(cells: &[Option<&Value>]) -> usize
-    ensures value { result ≡ null_count (cells_of cells.now) }
+pub fn count_nulls<C: Cell>(cells: &[C]) -> usize
+    ensures value { result ≡ null_count (map C.datum cells.now) }
     ensures bound { result ≤ length cells.now }
 {
     let mut nulls = 0;
     for cell in cells {
-        if !slots::is_set(*cell) {
+        if !cell.is_set() {
             nulls += 1;
         }
     }
@@ -49,119 +49,108 @@ pub fn count_nulls(cells: &[Option<&Value>]) -> usize
 
 /// The validity buffer: a bit a cell, or no bits where no cell is null.
 #[tactic(auto, using(crate::proofs::Cells::bits))]
-pub fn validity(alloc: Global, cells: &[Option<&Value>]) -> Result<Bitmap, AllocError>
+pub fn validity<C: Cell>(alloc: Global, cells: &[C]) -> Result<Bitmap, AllocError>
     requires { length cells.now < offset_bound }
-    ensures { IfOk result (λ bits. bytes_of bits ≡ validity_of (cells_of cells.now)) }
+    ensures { IfOk result (λ bits. bytes_of bits ≡ validity_of (map C.datum cells.now)) }
 {
     let mut bits = Bitmap::new(alloc);
     if count_nulls(cells) == 0 {
         return Ok(bits);
     }
     for cell in cells {
-        bits.push(slots::is_set(*cell))?;
+        bits.push(cell.is_set())?;
     }
     Ok(bits)
 }
 
 /// The values of a column of bools: a bit a cell, 0 for a null.
 #[tactic(auto, using(crate::proofs::Cells::steps), unfolding(crate::specs::Columns::truths))]
-pub fn truths(alloc: Global, cells: &[Option<&Value>]) -> Result<Bitmap, AllocError>
+pub fn truths<C: Cell>(alloc: Global, cells: &[C]) -> Result<Bitmap, AllocError>
     requires { length cells.now < offset_bound }
-    ensures { IfOk result (λ bits. bytes_of bits ≡ truths_of (cells_of cells.now)) }
+    ensures { IfOk result (λ bits. bytes_of bits ≡ truths_of (map C.datum cells.now)) }
 {
     let mut bits = Bitmap::new(alloc);
     for cell in cells {
-        bits.push(slots::truth_in(*cell))?;
+        bits.push(cell.truth())?;
     }
     Ok(bits)
 }
 
-/// Appends a number. One of 64 bits, as most are, is written at once, since its length is known here.
+/// Appends a number. Most have 64 bits, and are written as such.
 fn push_number(buffer: &mut Vec<u8>, number: i128, width: usize) -> Result<(), AllocError>
     requires some { 1 ≤ width }
     requires few { width ≤ 16 }
     ensures { OnOk result (buffer.new.items ≡ buffer.old.items ++ little_bytes width (low_bytes w128 width number)) }
 {
-    let mut bytes = [0u8; 16];
     if width == 8 {
-        LittleEndian::write_int128(&mut bytes, number, 8);
-        return buffer.extend_from_slice(&bytes[..8]);
+        if let Ok(number) = i64::try_from(number) {
+            return buffer.extend_from_slice(&number.to_le_bytes());
+        }
     }
+    let mut bytes = [0u8; 16];
     LittleEndian::write_int128(&mut bytes, number, width);
     buffer.extend_from_slice(&bytes[..width])
 }
 
 /// Appends the numbers of the cells, `width` bytes each; 0 for a null.
 #[tactic(auto, using(crate::proofs::Cells::steps), unfolding(crate::specs::Columns::numbers))]
-pub fn push_numbers(
+pub fn push_numbers<C: Cell>(
     buffer: &mut Vec<u8>,
-    cells: &[Option<&Value>],
+    cells: &[C],
     width: usize,
 ) -> Result<(), AllocError>
     requires some { 1 ≤ width }
     requires few { width ≤ 16 }
-    ensures { OnOk result (buffer.new.items ≡ buffer.old.items ++ numbers_of width (cells_of cells.now)) }
+    ensures { OnOk result (buffer.new.items ≡ buffer.old.items ++ numbers_of width (map C.datum cells.now)) }
 {
     buffer.reserve(width.saturating_mul(cells.len()))?;
     for cell in cells {
-        push_number(buffer, slots::whole_in(*cell), width)?;
+        push_number(buffer, cell.whole(), width)?;
     }
     Ok(())
 }
 
-fn push_fixed(buffer: &mut Vec<u8>, cell: Option<&Value>, width: usize) -> Result<(), AllocError>
-    ensures { OnOk result (buffer.new.items ≡ buffer.old.items ++ fixed_in width (cell_of cell.entry)) }
-{
-    let Some(value) = cell else {
-        return push_zeros(buffer, width);
-    };
-    match &value.kind {
-        Kind::Binary(bytes) => buffer.extend_from_slice(bytes),
-        _ => push_zeros(buffer, width),
-    }
-}
-
 /// Appends the bytes of each cell, and `width` zeros for a null.
 #[tactic(auto, using(crate::proofs::Cells::steps), unfolding(crate::specs::Columns::fixed))]
-pub fn push_all_fixed(
+pub fn push_all_fixed<C: Cell>(
     buffer: &mut Vec<u8>,
-    cells: &[Option<&Value>],
+    cells: &[C],
     width: usize,
 ) -> Result<(), AllocError>
-    ensures { OnOk result (buffer.new.items ≡ buffer.old.items ++ fixed_of width (cells_of cells.now)) }
+    ensures { OnOk result (buffer.new.items ≡ buffer.old.items ++ fixed_of width (map C.datum cells.now)) }
 {
     for cell in cells {
-        push_fixed(buffer, *cell, width)?;
+        cell.push_fixed(buffer, width)?;
     }
     Ok(())
 }
 
 /// Appends the bytes of all cells, one after the other.
 #[tactic(auto, using(crate::proofs::Cells::steps), unfolding(crate::specs::Columns::joined))]
-pub fn push_joined(buffer: &mut Vec<u8>, cells: &[Option<&Value>]) -> Result<(), AllocError>
-    ensures { OnOk result (buffer.new.items ≡ buffer.old.items ++ joined_of (cells_of cells.now)) }
+pub fn push_joined<C: Cell>(buffer: &mut Vec<u8>, cells: &[C]) -> Result<(), AllocError>
+    ensures { OnOk result (buffer.new.items ≡ buffer.old.items ++ joined_of (map C.datum cells.now)) }
 {
     for cell in cells {
-        buffer.extend_from_slice(slots::bytes_in(*cell))?;
+        buffer.extend_from_slice(cell.bytes())?;
     }
     Ok(())
 }
 
 /// Appends the offsets: where the bytes or the items of each cell start, and where the last ones end.
 #[tactic(auto, using(crate::proofs::Cells::steps), unfolding(crate::specs::Columns::offsets, crate::specs::Columns::offsets_from))]
-pub fn push_offsets(
+pub fn push_offsets<C: Cell>(
     buffer: &mut Vec<u8>,
-    cells: &[Option<&Value>],
+    cells: &[C],
     width: OffsetWidth,
 ) -> Result<(), AllocError>
-    requires { total_length (cells_of cells.now) < offset_bound }
-    ensures { OnOk result (buffer.new.items ≡ buffer.old.items ++ offsets_of width (cells_of cells.now)) }
+    requires { total_length (map C.datum cells.now) < offset_bound }
+    ensures { OnOk result (buffer.new.items ≡ buffer.old.items ++ offsets_of width (map C.datum cells.now)) }
 {
     buffer.reserve(width.bytes().saturating_mul(cells.len()))?;
     let mut end = 0;
     for cell in cells {
         push_offset(buffer, width, end)?;
-        end += slots::length_in(*cell) as u64;
+        end += cell.length() as u64;
     }
     push_offset(buffer, width, end)
 }

@@ -1,8 +1,9 @@
 //! Writes one column of any layout, with its children.
 
-ghost use Rattle.std.specs.Prelude.{◌<◌, ◌≤◌, OnOk, All, length, [], ◌∷◌};
-ghost use Rattle.values.specs.Rose.{node, kids_of};
+ghost use Rattle.std.specs.Prelude.{◌<◌, ◌≤◌, OnOk, All, length, map, [], ◌∷◌};
+ghost use Rattle.values.specs.Rose.{node, none, kids_of};
 ghost use Rattle.values.specs.Layouts.{AreLayouts, Holds, IsLayout, IsNode, offset_bound};
+ghost use Rattle.values.specs.CellViews.{viewed};
 ghost use Rattle.body_writer.specs.Slots.{cells_of, total_length};
 ghost use Rattle.body_writer.specs.Columns.{
   value_buffers,
@@ -22,15 +23,16 @@ ghost use Rattle.body_writer.specs.Grows.{Appends, Grows};
 
 use crate::body::Body;
 use crate::from_values::buffers;
+use crate::from_values::cell::Cell;
 use array_layout::FieldNode;
 use std::alloc::{AllocError, Global};
-use values::{Layout, LayoutTree, OffsetWidth, Value};
+use values::{CellView, Layout, LayoutTree, OffsetWidth, Value};
 
 /// Appends the buffer of whole numbers of `width` bytes.
-fn append_numbers(cells: &[Option<&Value>], width: usize, body: &mut Body) -> Result<(), AllocError>
+fn append_numbers<C: Cell>(cells: &[C], width: usize, body: &mut Body) -> Result<(), AllocError>
     requires some { 1 ≤ width }
     requires few { width ≤ 16 }
-    ensures { OnOk result (Appends body.old body.new (numbers_of width (cells_of cells.now) ∷ [])) }
+    ensures { OnOk result (Appends body.old body.new (numbers_of width (map C.datum cells.now) ∷ [])) }
 {
     let from = body.bytes.len();
     buffers::push_numbers(&mut body.bytes, cells, width)?;
@@ -38,8 +40,8 @@ fn append_numbers(cells: &[Option<&Value>], width: usize, body: &mut Body) -> Re
 }
 
 /// Appends the buffer of bytes of a fixed width.
-fn append_fixed(cells: &[Option<&Value>], width: usize, body: &mut Body) -> Result<(), AllocError>
-    ensures { OnOk result (Appends body.old body.new (fixed_of width (cells_of cells.now) ∷ [])) }
+fn append_fixed<C: Cell>(cells: &[C], width: usize, body: &mut Body) -> Result<(), AllocError>
+    ensures { OnOk result (Appends body.old body.new (fixed_of width (map C.datum cells.now) ∷ [])) }
 {
     let from = body.bytes.len();
     buffers::push_all_fixed(&mut body.bytes, cells, width)?;
@@ -47,13 +49,13 @@ fn append_fixed(cells: &[Option<&Value>], width: usize, body: &mut Body) -> Resu
 }
 
 /// Appends the buffer of offsets.
-fn append_offsets(
-    cells: &[Option<&Value>],
+fn append_offsets<C: Cell>(
+    cells: &[C],
     offsets: OffsetWidth,
     body: &mut Body,
 ) -> Result<(), AllocError>
-    requires { total_length (cells_of cells.now) < offset_bound }
-    ensures { OnOk result (Appends body.old body.new (offsets_of offsets (cells_of cells.now) ∷ [])) }
+    requires { total_length (map C.datum cells.now) < offset_bound }
+    ensures { OnOk result (Appends body.old body.new (offsets_of offsets (map C.datum cells.now) ∷ [])) }
 {
     let from = body.bytes.len();
     buffers::push_offsets(&mut body.bytes, cells, offsets)?;
@@ -61,8 +63,8 @@ fn append_offsets(
 }
 
 /// Appends the buffer of the bytes of all cells.
-fn append_joined(cells: &[Option<&Value>], body: &mut Body) -> Result<(), AllocError>
-    ensures { OnOk result (Appends body.old body.new (joined_of (cells_of cells.now) ∷ [])) }
+fn append_joined<C: Cell>(cells: &[C], body: &mut Body) -> Result<(), AllocError>
+    ensures { OnOk result (Appends body.old body.new (joined_of (map C.datum cells.now) ∷ [])) }
 {
     let from = body.bytes.len();
     buffers::push_joined(&mut body.bytes, cells)?;
@@ -70,29 +72,29 @@ fn append_joined(cells: &[Option<&Value>], body: &mut Body) -> Result<(), AllocE
 }
 
 /// Appends the offsets and the bytes of texts or of bytes.
-fn append_runs(
+fn append_runs<C: Cell>(
     offsets: OffsetWidth,
-    cells: &[Option<&Value>],
+    cells: &[C],
     body: &mut Body,
 ) -> Result<(), AllocError>
-    requires { total_length (cells_of cells.now) < offset_bound }
-    ensures { OnOk result
-        (Appends body.old body.new (offsets_of offsets (cells_of cells.now) ∷ joined_of (cells_of cells.now) ∷ [])) }
+    requires { total_length (map C.datum cells.now) < offset_bound }
+    ensures { OnOk result (Appends body.old body.new
+        (offsets_of offsets (map C.datum cells.now) ∷ joined_of (map C.datum cells.now) ∷ [])) }
 {
     append_offsets(cells, offsets, body)?;
     append_joined(cells, body)
 }
 
 /// Appends the offsets and values of these cells, by layout.
-fn append_values(
+fn append_values<C: Cell>(
     alloc: Global,
     layout: Layout,
-    cells: &[Option<&Value>],
+    cells: &[C],
     body: &mut Body,
 ) -> Result<(), AllocError>
     requires few { length cells.now < offset_bound }
-    requires short { total_length (cells_of cells.now) < offset_bound }
-    ensures { OnOk result (Appends body.old body.new (value_buffers layout (cells_of cells.now))) }
+    requires short { total_length (map C.datum cells.now) < offset_bound }
+    ensures { OnOk result (Appends body.old body.new (value_buffers layout (map C.datum cells.now))) }
 {
     match layout {
         Layout::Bool => body.append(buffers::truths(alloc, cells)?.as_bytes()),
@@ -107,16 +109,16 @@ fn append_values(
 }
 
 /// Appends the node and the buffers of an array of these cells, without those of its children.
-fn write_own(
+fn write_own<C: Cell>(
     alloc: Global,
     layout: Layout,
-    cells: &[Option<&Value>],
+    cells: &[C],
     body: &mut Body,
 ) -> Result<(), AllocError>
     requires few { length cells.now < offset_bound }
-    requires short { total_length (cells_of cells.now) < offset_bound }
-    ensures { OnOk result
-        (Grows body.old body.new (own_node (cells_of cells.now) ∷ []) (own_buffers layout (cells_of cells.now))) }
+    requires short { total_length (map C.datum cells.now) < offset_bound }
+    ensures { OnOk result (Grows body.old body.new
+        (own_node (map C.datum cells.now) ∷ []) (own_buffers layout (map C.datum cells.now))) }
 {
     body.nodes.push(FieldNode {
         length: cells.len(),
@@ -169,4 +171,23 @@ pub fn write_column_from_values(
 {
     write_own(alloc, layout.layout, cells, body)?;
     write_children(alloc, layout.layout, &layout.children, cells, body)
+}
+
+/// Appends the column of these cells, which are read where they lie, of a layout without children: its node, and its
+/// buffers, each with zeros up to a multiple of 8.
+///
+/// Where memory is refused the body may hold a part of the column, and must not be used.
+pub fn write_column_from_cells(
+    alloc: Global,
+    layout: Layout,
+    cells: &[CellView<'_>],
+    body: &mut Body,
+) -> Result<(), AllocError>
+    requires layouts { IsLayout (node layout none) }
+    requires held { All (Holds (node layout none)) (map viewed cells.now) }
+    requires light { weights (node layout none) (map viewed cells.now) < offset_bound }
+    ensures { OnOk result (Grows body.old body.new (nodes (node layout none) (map viewed cells.now))
+        (buffers (node layout none) (map viewed cells.now))) }
+{
+    write_own(alloc, layout, cells, body)
 }

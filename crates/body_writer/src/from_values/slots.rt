@@ -1,16 +1,19 @@
-//! Reads from a cell what its column stores of it: a bit, a number, bytes, a length, a child cell.
+//! Reads from a reference to a value what its column stores of it: a bit, a number, bytes, a length, a child cell.
 
-ghost use Rattle.std.specs.Prelude.{◌≡◌};
+ghost use Rattle.std.specs.Prelude.{◌≡◌, ◌++◌, OnOk};
 ghost use Rattle.body_writer.specs.Slots.{
   cell_of,
   is_valid,
   truth_in as truth_of,
   whole_in as whole_of,
   bytes_in as bytes_of,
+  fixed_in,
   length_in as length_of,
   part as part_of,
 };
 
+use crate::bytes::push_zeros;
+use std::alloc::AllocError;
 use values::{Kind, Value};
 
 /// Whether a cell is not null. `None` is a cell below a null struct, which is null.
@@ -79,6 +82,23 @@ pub fn length_in(cell: Option<&Value>) -> usize
         Kind::Binary(bytes) => bytes.len(),
         Kind::List(items) => items.len(),
         _ => 0,
+    }
+}
+
+/// Appends the cell of a column of bytes that are all `width` long: the bytes, and zeros for any other cell.
+pub fn push_fixed(
+    buffer: &mut Vec<u8>,
+    cell: Option<&Value>,
+    width: usize,
+) -> Result<(), AllocError>
+    ensures { OnOk result (buffer.new.items ≡ buffer.old.items ++ fixed_in width (cell_of cell.entry)) }
+{
+    let Some(value) = cell else {
+        return push_zeros(buffer, width);
+    };
+    match &value.kind {
+        Kind::Binary(bytes) => buffer.extend_from_slice(bytes),
+        _ => push_zeros(buffer, width),
     }
 }
 

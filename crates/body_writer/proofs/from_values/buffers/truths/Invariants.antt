@@ -1,7 +1,8 @@
 use Rattle.std.proofs.Common.{◌≡◌, ◌++◌, drop}
 use Rattle.std.specs.Prelude.{map}
-use Rattle.body_writer.specs.Slots.{truth_in, cells_of}
+use Rattle.body_writer.specs.Slots.{truth_in}
 use Rattle.body_writer.proofs.from_values.buffers.truths.Given as goal
 
 abbrev pub invariant-loop-cell : goal.invariant-loop-cell
-invariant-loop-cell l = l.bits ++ map truth_in (cells_of (drop l.cell-index l.cells)) ≡ map truth_in (cells_of l.cells)
+invariant-loop-cell g l =
+    l.bits ++ map truth_in (map g.C.Cell.datum (drop l.cell-index l.cells)) ≡ map truth_in (map g.C.Cell.datum l.cells)

@@ -1,7 +1,7 @@
 use Rattle.std.proofs.Common.{rules, ap, ◌∙◌, ◌+◌, drop}
 use denote.Param.Weighed.{at_most}
 use Rattle.values.proofs.Roses.{kid_smaller}
-use Rattle.body_writer.specs.Slots.{cells_of}
+use Rattle.body_writer.specs.Slots.{cell_of, cells_of}
 use Rattle.values.specs.Rose.{kids_of}
 use Rattle.body_writer.proofs.Ahead.{ahead-start, ahead-first, ahead-call, ahead-next}
 use Rattle.body_writer.proofs.Cells.{few-cells}
@@ -9,7 +9,7 @@ use Rattle.body_writer.proofs.WeightLemmas.{total-short}
 use Rattle.body_writer.proofs.from_values.column.+column.Goals as goal
 
 pub write_column_from_values-write_own-requires-clause-few : goal.write_column_from_values-write_own-requires-clause-few
-write_column_from_values-write_own-requires-clause-few t c = few-cells c.args.layout.now c.args.cells.now c.requires.light
+write_column_from_values-write_own-requires-clause-few t c = few-cells cell_of c.args.layout.now c.args.cells.now c.requires.light
 
 pub write_column_from_values-write_own-requires-clause-short : goal.write_column_from_values-write_own-requires-clause-short
 write_column_from_values-write_own-requires-clause-short t c =
