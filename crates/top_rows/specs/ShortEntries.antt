@@ -1,9 +1,11 @@
 -- Entries of rows whose sort keys are short.
 use Rattle.std.proofs.Common.{◌≡◌, refl, ap₂, ◌∙◌}
 use Rattle.std.specs.Ordering.{ordering_then}
-use Rattle.std.specs.Prelude.{◌∷◌, [], List}
+use Rattle.std.specs.Int.{w64}
+use Rattle.std.specs.Prelude.{◌∷◌, ◌≤◌, ℕ, zero, suc, FitsSigned, [], List, length}
 use Rattle.std.specs.declared.cmp.Ordering.{Ordering}
 use Rattle.std.specs.declared.cmp.Ordering.TheVariants.{Equal, Greater, Less}
+use Rattle.values.specs.declared.key.Key.{Key}
 use Rattle.values.specs.declared.key.Key.TheVariants as key
 use Rattle.top_rows.specs.EntryOrder.{sort_key_cmp, sort_keys_cmp}
 use Rattle.top_rows.specs.contracts.short_key.ShortKeyOrd.TheImpl as order
@@ -19,6 +21,24 @@ sort_key_of_short (short_key.AscendingText t) = sort_key.Ascending (key.Utf8 t)
 sort_key_of_short (short_key.DescendingText t) = sort_key.Descending (record { 0 = key.Utf8 t.0 })
 sort_key_of_short (short_key.DescendingNumber n) = sort_key.Descending (record { 0 = key.Int n.0 })
 sort_key_of_short short_key.Missing = sort_key.Missing
+
+-- A key has a short form if it is a whole number of 64 bits or a text of at most 14 bytes.
+abbrev pub IsShort : Key → Type 0
+IsShort (key.Int n) = FitsSigned w64 n
+IsShort (key.Utf8 t) = length t ≤ 14
+IsShort k = ⊥
+
+-- A sort key has a short form if its key has one, or if it is missing.
+abbrev pub IsShortKey : SortKey → Type 0
+IsShortKey (sort_key.Ascending k) = IsShort k
+IsShortKey (sort_key.Descending k) = IsShort k.0
+IsShortKey sort_key.Missing = Unit {0}
+
+-- There are so many sort keys, and each has a short form.
+abbrev pub AreShort : ℕ → List SortKey → Type 0
+AreShort zero [] = Unit {0}
+AreShort (suc n) (k ∷ ks) = IsShortKey k × AreShort n ks
+AreShort n ks = ⊥
 
 -- the sort keys that are stored as one short key, and as two
 abbrev pub sort_keys_of_one : ShortKey → List SortKey

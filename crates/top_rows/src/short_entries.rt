@@ -7,6 +7,8 @@ ghost use Rattle.std.specs.List.Sorted.{IsStrictlySortedBy};
 ghost use Rattle.std.specs.Set.{remove_key};
 ghost use Rattle.top_rows.specs.EntryOrder.{RowEntry, entry_cmp};
 ghost use Rattle.top_rows.specs.Places.{place_of};
+ghost use Rattle.top_rows.specs.ShortEntries.{AreShort};
+ghost use Rattle.top_rows.specs.SortKeys.{sort_keys_of};
 
 use crate::entry::OrderEntry;
 use crate::short_keys::ShortKeys;
@@ -53,6 +55,8 @@ impl<K: ShortKeys> ShortEntries<K> {
         ensures done { IfOk result (λ done. done ≡ true
             → self.new ≡ insert_key entry_cmp self.old (place_of order.now number (R.cells row.now))) }
         ensures left { IfOk result (λ done. done ≡ false → self.new ≡ self.old) }
+        ensures long { IfOk result (λ done. done ≡ false
+            → AreShort K.count (sort_keys_of order.now (R.cells row.now)) → ⊥) }
         ensures err { OnErr result (self.new ≡ self.old) }
     {
         let Some(keys) = K::of(order, row) else {
@@ -67,6 +71,7 @@ impl<K: ShortKeys> ShortEntries<K> {
         ensures done { result ≡ true → self.new
             ≡ remove_key (is_at (entry_cmp (place_of order.now number (R.cells row.now)))) self.old }
         ensures left { result ≡ false → self.new ≡ self.old }
+        ensures long { result ≡ false → AreShort K.count (sort_keys_of order.now (R.cells row.now)) → ⊥ }
     {
         let Some(keys) = K::of(order, row) else {
             return false;

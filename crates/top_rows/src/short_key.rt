@@ -1,10 +1,10 @@
 //! What a row is ordered by in one column, where that is a whole number of 64 bits, a short text or missing.
 
-ghost use Rattle.std.specs.Prelude.{◌≡◌, ◌∷◌, IfOk, IfSome, List};
+ghost use Rattle.std.specs.Prelude.{◌≡◌, ◌∷◌, [], IfOk, List, MatchOption};
 ghost use Rattle.view_lang.specs.Cells.{cell_at};
 ghost use Rattle.values.specs.declared.key.Key.TheVariants.{Utf8};
 ghost use Rattle.top_rows.specs.InlineKeys.{listed};
-ghost use Rattle.top_rows.specs.ShortEntries.{sort_key_of_short};
+ghost use Rattle.top_rows.specs.ShortEntries.{AreShort, IsShortKey, sort_key_of_short};
 ghost use Rattle.top_rows.specs.declared.sort_key.SortKey.{SortKey as SortKeys};
 ghost use Rattle.top_rows.specs.SortKeys.{sort_key_of};
 
@@ -31,7 +31,9 @@ impl ShortKey {
     /// The sort key of a row for one column of an order, if it is short.
     #[tactic(auto, using(values::proofs::ShallowLemmas::shallow_laws))]
     pub(crate) fn of<R: RowView>(row: &R, by: &OrderBy) -> Option<ShortKey>
-        ensures { IfSome result (λ key. sort_key_of by.now.direction (cell_at (R.cells row.now) by.now.column)
+        ensures { MatchOption result
+            (IsShortKey (sort_key_of by.now.direction (cell_at (R.cells row.now) by.now.column)) → ⊥)
+            (λ key. sort_key_of by.now.direction (cell_at (R.cells row.now) by.now.column)
             ≡ sort_key_of_short key) }
     {
         match row.cell(by.column) {
@@ -49,15 +51,15 @@ impl ShortKey {
                     Direction::Descending => Some(ShortKey::DescendingText(Reverse(text))),
                 }
             }
-            CellView::Null => Some(ShortKey::Missing),
+            CellView::Null | CellView::List | CellView::Struct => Some(ShortKey::Missing),
             _ => None,
         }
     }
 
     /// The short key of a sort key of this kind, if there is one.
     pub(crate) fn of_kind(kind: InlineKind, key: &Key) -> Option<ShortKey>
-        ensures { IfSome result (λ short. (others : List SortKeys) → listed kind key.now others
-            ≡ sort_key_of_short short ∷ others) }
+        ensures { MatchOption result (AreShort 1 (listed kind key.now []) → ⊥)
+            (λ short. (others : List SortKeys) → listed kind key.now others ≡ sort_key_of_short short ∷ others) }
     {
         match (kind, key.view()) {
             (InlineKind::Ascending, CellView::Int(number)) => {

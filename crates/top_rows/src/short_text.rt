@@ -2,7 +2,7 @@
 
 ghost use Rattle.std.specs.Cmp.Lexicographic.{slice_cmp};
 ghost use Rattle.std.specs.Ordering.{nat_cmp};
-ghost use Rattle.std.specs.Prelude.{◌≡◌, ◌≤◌, IfSome, length};
+ghost use Rattle.std.specs.Prelude.{◌≡◌, ◌<◌, ◌≤◌, MatchOption, length};
 ghost use Rattle.values.specs.SmallBytes.{spelled};
 
 use std::cmp::Ordering;
@@ -67,7 +67,7 @@ fn cmp_by_words(bytes: &[u8; ROOM], other: &[u8; ROOM]) -> Ordering
 impl ShortText {
     /// A text, if it is short.
     pub(crate) fn of(text: &str) -> Option<ShortText>
-        ensures { IfSome result (λ short. short ≡ text.now) }
+        ensures { MatchOption result (14 < length text.now) (λ short. short ≡ text.now) }
     {
         let text = text.as_bytes();
         if text.len() > ROOM {

@@ -1,9 +1,9 @@
 //! Sort keys of rows.
 
-ghost use Rattle.std.specs.Prelude.{◌≡◌, [], ◌∷◌, IfOk, IfSome, List, MatchOption};
+ghost use Rattle.std.specs.Prelude.{◌≡◌, [], ◌∷◌, IfOk, List, MatchOption};
 ghost use Rattle.top_rows.specs.InlineKeys.{IsListed, cmp_in, inline_cmp, listed};
 ghost use Rattle.top_rows.specs.Ranks.{IsRank};
-ghost use Rattle.top_rows.specs.ShortEntries.{sort_keys_of_one};
+ghost use Rattle.top_rows.specs.ShortEntries.{AreShort, sort_keys_of_one};
 ghost use Rattle.top_rows.specs.SortKeys.{sort_keys_of};
 ghost use Rattle.top_rows.specs.declared.sort_key.SortKey.{SortKey as SortKeys};
 
@@ -188,7 +188,7 @@ impl SortKeyList {
 
     /// The short key that stands for them, if there is one sort key and it is short.
     pub fn short(&self) -> Option<ShortKey>
-        ensures { IfSome result (λ key. self.now ≡ sort_keys_of_one key) }
+        ensures { MatchOption result (AreShort 1 self.now → ⊥) (λ key. self.now ≡ sort_keys_of_one key) }
     {
         match self.second_kind {
             InlineKind::NoKey => ShortKey::of_kind(self.first_kind, &self.first),
