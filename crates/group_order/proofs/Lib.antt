@@ -1,3 +1,4 @@
 pub mod OrderedGroups
 pub mod RankedRows
+pub mod LentRows
 pub mod EntryChanges

@@ -1,6 +1,6 @@
--- The rows of the first entries are the first of the definition's group rows.
+-- The rows of the entries' groups are the definition's group rows.
 use Rattle.std.proofs.Common.{◌≡◌, zero, suc, false, refl, ap, ap₂, sym, ◌∙◌, subst, arith, get_or, length, true≢false}
-use Rattle.std.specs.Prelude.{◌++◌, ◌+◌, ◌<◌, ℕ, Bool, true, cond, filter, List, [], ◌∷◌, map, Option, None, Some, take}
+use Rattle.std.specs.Prelude.{◌+◌, ℕ, Bool, true, cond, filter, List, [], ◌∷◌, map, Option, None, Some, take}
 use Rattle.std.specs.BTreeMap.{is_at}
 use Rattle.std.specs.Cmp.{Equal-is, eq_by_cmp_equiv}
 use Rattle.std.specs.declared.cmp.Ordering.TheVariants.{Less}
@@ -12,8 +12,7 @@ use Rattle.values.specs.Datum.{Datum}
 use Rattle.values.specs.declared.key.Key.{Key}
 use Rattle.view_lang.specs.Cells.{cell_at}
 use Rattle.std.proofs.lemmas.Bool.{lt-ltb}
-use Rattle.std.proofs.lemmas.List.{take_more}
-use Rattle.std.proofs.lemmas.List.Elements.{filter_map-append}
+use Rattle.std.proofs.lemmas.List.{take_all}
 use Rattle.std.proofs.lemmas.Map.{lookup-none}
 use Rattle.std.proofs.lemmas.Map.Entries.{none_past_head}
 use Rattle.std.proofs.lemmas.Map.Keys.{IsDistinct-from_sorted}
@@ -31,7 +30,7 @@ use Rattle.group_state.specs.Grouped.{Grouped}
 use Rattle.group_state.specs.Groups.{Keeps as KeepsGroups, KeepsAt}
 use Rattle.group_state.specs.Keys.{tuple_cmp, tuple_total}
 use Rattle.group_state.specs.Reading.{AreRead, CanReadAll}
-use Rattle.group_state.specs.Aggregates.{seen_row}
+use Rattle.group_state.specs.Aggregates.{seen_at, seen_row}
 use Rattle.group_state.specs.declared.accumulated_columns.AccumulatedColumn.{AccumulatedColumn}
 use Rattle.group_state.proofs.AggregateCases.{one-cell}
 use Rattle.group_state.proofs.GroupLaw.{all-read}
@@ -40,7 +39,7 @@ use Rattle.group_state.proofs.Seen.{seen-read}
 use Rattle.top_rows.specs.Ties.{has_sort_keys, named, stands_by}
 use Rattle.top_rows.specs.ViewOrder.{OrdersKeys}
 use Rattle.top_rows.proofs.Ties.{first-named, keeps-same}
-use Rattle.group_order.specs.GroupEntries.{group_entry_cmp}
+use Rattle.group_order.specs.GroupEntries.{GroupEntry, group_entry_cmp}
 use Rattle.group_order.specs.Ranked.{Keeps, Ranked, Ranking, has_entries, if_passing, placed_at, ranked_rows, ranking_by, shown_at}
 
 -- What is shown of groups is neither a list nor a struct.
@@ -93,14 +92,26 @@ abbrev tail_of : {X : Type 0} → List X → List X
 tail_of [] = []
 tail_of (x ∷ xs) = xs
 
-made-of : (at : List Key → Option (List Datum)) (ts : List (List Key)) (rows : List (List Datum))
-    → map at ts ≡ map Some rows → filter_map at ts ≡ rows
-made-of at [] [] h = refl
-made-of at [] (r ∷ rs) h = absurd (omega (arith, ap length h))
-made-of at (t ∷ ts) [] h = absurd (omega (arith, ap length h))
-made-of at (t ∷ ts) (r ∷ rs) h =
-    let here : at t ≡ Some r = ap (λ l. get_or l 0 None) h in
-    ap (λ o. cons_option o (filter_map at ts)) here ∙ ap (λ l. r ∷ l) (made-of at ts rs (ap tail_of h))
+-- a row that is shown is that of the group
+passed-is : (having : Option Filter) (o : Option (List Datum)) (row : List Datum) → if_passing having o ≡ Some row
+    → o ≡ Some row
+passed-is having None row h = h
+passed-is having (Some x) row h = either (passes having x) h
+  where
+    either : (b : Bool) → cond b (Some x) None ≡ Some row → Some x ≡ Some row
+    either true e = e
+    either false e = absurd (cc)
+
+made-of : (having : Option Filter) (at : List Key → Option (List Datum)) (es : List GroupEntry)
+    (rows : List (List Datum)) → map (λ t. if_passing having (at t)) (map (λ p. p.1) es) ≡ map Some rows
+    → filter_map (λ p. at p.1) es ≡ rows
+made-of having at [] [] h = refl
+made-of having at [] (r ∷ rs) h = absurd (omega (arith, ap length h))
+made-of having at (e ∷ es) [] h = absurd (omega (arith, ap length h))
+made-of having at (e ∷ es) (r ∷ rs) h =
+    let here : at e.1 ≡ Some r = passed-is having (at e.1) r (ap (λ l. get_or l 0 None) h) in
+    ap (λ o. cons_option o (filter_map (λ p. at p.1) es)) here
+    ∙ ap (λ l. r ∷ l) (made-of having at es rs (ap tail_of h))
 
 map-same : {X Y : Type 0} (f g : X → Y) → ((x : X) → f x ≡ g x) → (xs : List X) → map f xs ≡ map g xs
 map-same f g h [] = refl
@@ -183,14 +194,14 @@ passing-at having t (e ∷ es) up =
         rest ∙ sym (ap (λ (a : Bool). cond a (Some e.1) (named tuple_cmp (passing having es) t)) x)
     either false x false y rest = rest
 
--- The rows of the first entries are the first group rows that pass, sorted, with ties broken by their tuples.
-pub first-ranked : TuplesAsk → TuplesAscend → TuplesAreOfRows → (s : Ranked) (rows : List (List Datum)) (n : ℕ)
+-- The rows of the entries' groups are the group rows that pass, sorted, with ties broken by their tuples.
+ranked-read : TuplesAsk → TuplesAscend → TuplesAreOfRows → (s : Ranked) (rows : List (List Datum))
     → Keeps s rows → CanReadAll s.groups.keys s.groups.columns s.ranking.outputs rows
     → IsStrictlySortedBy tuple_cmp (keys_of s.groups.groups) → IsStrictlySortedBy group_entry_cmp s.entries
     → has_entries s.ranking ≡ true → ((length s.groups.keys ≡ 0) × (length s.groups.groups ≡ 0) → ⊥)
-    → filter_map (shown_at s.ranking s.groups) (map (λ p. p.1) (take n s.entries))
-    ≡ take n (ranked_rows s.groups.keys s.ranking rows)
-first-ranked ask ascend of_rows s rows n k can up entries_up kept bare =
+    → filter_map (λ p. seen_at s.ranking.outputs s.groups p.1) s.entries
+    ≡ ranked_rows s.groups.keys s.ranking rows
+ranked-read ask ascend of_rows s rows k can up entries_up kept bare =
     let r : Ranking = s.ranking in
     let all : List (List Key × List Datum) = shown s.groups.columns r.outputs s.groups.groups in
     let all_up : IsStrictlySortedBy tuple_cmp (keys_of all) =
@@ -200,30 +211,44 @@ first-ranked ask ascend of_rows s rows n k can up entries_up kept bare =
     let same : (t : List Key) → at t ≡ named tuple_cmp es t =
     λ t. ap (if_passing r.having) (shown-at s.groups.columns r.outputs t s.groups.groups)
     ∙ passing-at r.having t all all_up in
-    let ts : List (List Key) = map (λ p. p.1) (take n s.entries) in
     let rows_are : values_of es ≡ filter (passes r.having) (group_rows s.groups.keys r.outputs rows) =
     passing-rows r.having all
     ∙ ap (filter (passes r.having))
     (all-read s.groups r.outputs rows k.groups_are can ask ascend of_rows s.groups.columns s.groups.groups
     (values_of all) refl refl up (shown-read s.groups.columns r.outputs s.groups.groups) bare) in
-    let firsts : map (named tuple_cmp es) ts ≡ map Some (take n (sorted (row_cmp r.order) (values_of es))) =
+    let ranked : List (List Datum) = sorted (row_cmp r.order) (values_of es) in
+    let n : ℕ = length s.entries + length ranked in
+    let firsts : map (named tuple_cmp es) (map (λ p. p.1) (take n s.entries)) ≡ map Some (take n ranked) =
     first-named tuple_cmp tuple_total tuple_exact r.order s.entries es n (passing-ascends r.having all all_up) entries_up
     (keeps-same tuple_cmp tuple_total tuple_exact r.order s.entries (placed_at r s.groups) (named tuple_cmp es)
     (λ t. ap (λ b. cond b (at t) None) kept ∙ same t) k.ranked)
     (passing-ordered r.having r.order all (shown-ordered s.groups.columns r.outputs r.order s.groups.groups)) in
-    made-of at ts _
-    (map-same at (named tuple_cmp es) same ts ∙ firsts
-    ∙ ap (λ l. map Some (take n (sorted (row_cmp r.order) l))) rows_are)
+    made-of r.having (seen_at r.outputs s.groups) s.entries ranked
+    (map-same at (named tuple_cmp es) same (map (λ p. p.1) s.entries)
+    ∙ ap (λ (l : List GroupEntry). map (named tuple_cmp es) (map (λ p. p.1) l))
+    (sym (take_all n s.entries (omega arith)))
+    ∙ firsts ∙ ap (map Some) (take_all n ranked (omega arith)))
+    ∙ ap (sorted (row_cmp r.order)) rows_are
 
--- one more row of a tuple that has a group
-pub rows-more : (at : List Key → Option (List Datum)) (ts : List (List Key)) (i : ℕ) (t : List Key)
-    (so_far next : List (List Datum)) (row : Option (List Datum)) → i < length ts → t ≡ get_or ts i t
-    → so_far ≡ filter_map at (take i ts) → row ≡ at t → next ≡ so_far ++ cons_option row []
-    → next ≡ filter_map at (take (i + 1) ts)
-rows-more at ts i t so_far next row below is before here pushed =
-    pushed ∙ ap₂ (λ xs o. xs ++ cons_option o []) before (here ∙ ap at is)
-    ∙ sym (filter_map-append at (take i ts) (get_or ts i t ∷ []))
-    ∙ ap (filter_map at) (sym (take_more ts i t below))
+-- The first of them are the rows that are shown first.
+pub first-ranked : TuplesAsk → TuplesAscend → TuplesAreOfRows → (s : Ranked) (g : Grouped) (r : Ranking)
+    (entries : List GroupEntry) (outs : List GroupOutput) (made : List (List Datum)) (n : ℕ)
+    → record { groups = g; ranking = r; entries = entries } ≡ s → outs ≡ r.outputs
+    → made ≡ take n (filter_map (λ p. seen_at outs g p.1) entries)
+    → IsStrictlySortedBy tuple_cmp (keys_of g.groups) → IsStrictlySortedBy group_entry_cmp entries
+    → has_entries r ≡ true → ((length s.groups.keys ≡ 0) × (length s.groups.groups ≡ 0) → ⊥)
+    → (rows : List (List Datum)) → Keeps s rows
+    → CanReadAll s.groups.keys s.groups.columns s.ranking.outputs rows
+    → made ≡ take n (ranked_rows s.groups.keys s.ranking rows)
+first-ranked ask ascend of_rows s g r entries outs made n is outs_are read up entries_up kept bare rows k can =
+    read
+    ∙ ap (λ os. take n (filter_map (λ p. seen_at os g p.1) entries)) outs_are
+    ∙ ap (λ (x : Ranked). take n (filter_map (λ p. seen_at x.ranking.outputs x.groups p.1) x.entries)) is
+    ∙ ap (take n)
+    (ranked-read ask ascend of_rows s rows k can
+    (subst (λ (x : Ranked). IsStrictlySortedBy tuple_cmp (keys_of x.groups.groups)) is up)
+    (subst (λ (x : Ranked). IsStrictlySortedBy group_entry_cmp x.entries) is entries_up)
+    (subst (λ (x : Ranked). has_entries x.ranking ≡ true) is kept) bare)
 
 -- one row is sorted as it is, if it passes
 pub one-sorted : (order : List OrderBy) (having : Option Filter) (by : List ℕ) (outs : List GroupOutput)

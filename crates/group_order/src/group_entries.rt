@@ -1,10 +1,12 @@
 //! The entries of group rows in an order.
 
-ghost use Rattle.std.specs.Prelude.{◌≡◌, [], IfOk, map, OnOk, take};
+ghost use Rattle.std.specs.Prelude.{◌≡◌, ◌++◌, [], IfOk, map, OnOk, take};
 ghost use Rattle.std.specs.BTreeMap.{is_at};
 ghost use Rattle.std.specs.BTreeSet.{insert_key};
+ghost use Rattle.std.specs.List.{cons_option, filter_map};
 ghost use Rattle.std.specs.List.Sorted.{IsStrictlySortedBy};
 ghost use Rattle.std.specs.Set.{remove_key};
+ghost use Rattle.group_state.specs.Aggregates.{seen_at};
 ghost use Rattle.top_rows.specs.ShortEntries.{short_entry, sort_keys_of_one};
 ghost use Rattle.group_order.specs.EntryForms.{ShortPair, entries_in};
 ghost use Rattle.group_order.specs.GroupEntries.{GroupEntry as EntrySeen, group_entry_cmp};
@@ -12,11 +14,12 @@ ghost use Rattle.group_order.specs.RankedParts.{entry_with};
 
 use crate::entry::GroupEntry;
 use crate::parts::GroupEntryParts;
-use group_state::Tuple;
+use group_state::{GroupRow, Groups, Tuple};
 use std::alloc::{AllocError, Global};
 use std::collections::BTreeSet;
 use std::marker::Model;
 use top_rows::{ShortKey, SortKeyList};
+use view_lang::GroupOutput;
 
 /// How entries are stored.
 #[derive(Debug, Drop)]
@@ -58,40 +61,62 @@ fn widened(
     Ok(entries)
 }
 
-/// The tuples of the first pairs, at most `most` of them.
-fn first_of_pairs(
-    alloc: Global,
-    pairs: &BTreeSet<(ShortKey, Tuple)>,
-    most: usize,
-) -> Result<Vec<Tuple>, AllocError>
-    ensures { IfOk result (λ tuples. tuples.items ≡ map (λ (p : ShortPair). p.1) (take most pairs.now.keys)) }
+/// Adds the row of a tuple's group where it lies, if it has one.
+fn push_row<'a>(
+    rows: &mut Vec<GroupRow<'a>>,
+    groups: &'a Groups,
+    outputs: &'a [GroupOutput],
+    tuple: &'a Tuple,
+) -> Result<(), AllocError>
+    ensures { OnOk result
+        (rows.new.items ≡ rows.old.items ++ cons_option (seen_at outputs.now groups.now tuple.now) []) }
 {
-    let mut tuples = Vec::with_capacity(alloc, pairs.len().min(most))?;
-    for (_key, tuple) in pairs.iter() {
-        if tuples.len() == most {
-            break;
-        }
-        tuples.push(tuple.copy(alloc)?)?;
+    if let Some(row) = groups.row(outputs, tuple) {
+        rows.push(row)?;
     }
-    Ok(tuples)
+    Ok(())
 }
 
-/// The tuples of the first entries, at most `most` of them.
-fn first_of_entries(
+/// The rows of the groups of the first pairs where they lie, at most `most` of them.
+fn rows_of_pairs<'a>(
     alloc: Global,
-    entries: &BTreeSet<GroupEntry>,
+    groups: &'a Groups,
+    outputs: &'a [GroupOutput],
+    pairs: &'a BTreeSet<(ShortKey, Tuple)>,
     most: usize,
-) -> Result<Vec<Tuple>, AllocError>
-    ensures { IfOk result (λ tuples. tuples.items ≡ map (λ (p : EntrySeen). p.1) (take most entries.now.keys)) }
+) -> Result<Vec<GroupRow<'a>>, AllocError>
+    ensures { IfOk result (λ made. made.items
+        ≡ take most (filter_map (λ (p : ShortPair). seen_at outputs.now groups.now p.1) pairs.now.keys)) }
 {
-    let mut tuples = Vec::with_capacity(alloc, entries.len().min(most))?;
-    for entry in entries.iter() {
-        if tuples.len() == most {
+    let mut made = Vec::with_capacity(alloc, pairs.len().min(most))?;
+    for (_key, tuple) in pairs.iter() {
+        if made.len() == most {
             break;
         }
-        tuples.push(entry.tuple().copy(alloc)?)?;
+        push_row(&mut made, groups, outputs, tuple)?;
     }
-    Ok(tuples)
+    Ok(made)
+}
+
+/// The rows of the groups of the first entries where they lie, at most `most` of them.
+fn rows_of_entries<'a>(
+    alloc: Global,
+    groups: &'a Groups,
+    outputs: &'a [GroupOutput],
+    entries: &'a BTreeSet<GroupEntry>,
+    most: usize,
+) -> Result<Vec<GroupRow<'a>>, AllocError>
+    ensures { IfOk result (λ made. made.items
+        ≡ take most (filter_map (λ (p : EntrySeen). seen_at outputs.now groups.now p.1) entries.now.keys)) }
+{
+    let mut made = Vec::with_capacity(alloc, entries.len().min(most))?;
+    for entry in entries.iter() {
+        if made.len() == most {
+            break;
+        }
+        push_row(&mut made, groups, outputs, entry.tuple())?;
+    }
+    Ok(made)
 }
 
 /// The parts of entries.
@@ -251,16 +276,23 @@ impl GroupEntries {
         }
     }
 
-    /// The tuples of the first entries, at most `most` of them.
-    pub(crate) fn first_tuples(&self, alloc: Global, most: usize) -> Result<Vec<Tuple>, AllocError>
-        ensures { IfOk result (λ tuples. tuples.items ≡ map (λ (p : EntrySeen). p.1) (take most self.now)) }
+    /// The rows of the groups of the first entries where they lie, at most `most` of them.
+    pub(crate) fn first_rows<'a>(
+        &'a self,
+        alloc: Global,
+        groups: &'a Groups,
+        outputs: &'a [GroupOutput],
+        most: usize,
+    ) -> Result<Vec<GroupRow<'a>>, AllocError>
+        ensures { IfOk result (λ made. made.items
+            ≡ take most (filter_map (λ (p : EntrySeen). seen_at outputs.now groups.now p.1) self.now)) }
     {
         match &self.form {
             Form::Short(pairs) => {
-                let tuples = first_of_pairs(alloc, pairs, most)?;
-                Ok(tuples)
+                let made = rows_of_pairs(alloc, groups, outputs, pairs, most)?;
+                Ok(made)
             }
-            Form::Entries(entries) => first_of_entries(alloc, entries, most),
+            Form::Entries(entries) => rows_of_entries(alloc, groups, outputs, entries, most),
         }
     }
 }

@@ -3,14 +3,13 @@
 ghost use Rattle.std.specs.Prelude.{
   ◌≡◌,
   ◌<◌,
-  ◌++◌,
   [],
   All,
   length,
-  map,
   take,
   false,
   IfOk,
+  IfSome,
   None,
   OnOk,
   Option,
@@ -19,7 +18,6 @@ ghost use Rattle.std.specs.Prelude.{
   ℕ,
 };
 ghost use Rattle.std.specs.BTreeMap.{is_at};
-ghost use Rattle.std.specs.List.{cons_option, filter_map};
 ghost use Rattle.std.specs.List.Sorted.{IsStrictlySortedBy};
 ghost use Rattle.std.specs.Map.{keys_of, values_of};
 ghost use Rattle.std.specs.Ordering.{nat_cmp};
@@ -33,7 +31,7 @@ ghost use Rattle.group_state.specs.Moves.{CanGiveUp, CanTakeIn, GivesUp, TakesIn
 ghost use Rattle.group_state.specs.Reading.{WhereRead};
 ghost use Rattle.group_state.specs.Tuples.{tuple_of as tuple_by};
 ghost use Rattle.top_rows.specs.Ties.{KeepsBy, entry_by, without};
-ghost use Rattle.group_order.specs.GroupEntries.{GroupEntry as EntrySeen, group_entry_cmp};
+ghost use Rattle.group_order.specs.GroupEntries.{group_entry_cmp};
 ghost use Rattle.group_order.specs.Ranked.{
   AreExchanged,
   AreWithAll,
@@ -45,7 +43,6 @@ ghost use Rattle.group_order.specs.Ranked.{
   named,
   placed_at,
   ranked_rows,
-  shown_at,
 };
 ghost use Rattle.group_order.specs.RankedParts.{AreRanked, ranked_with};
 
@@ -57,7 +54,7 @@ use std::alloc::{AllocError, Global};
 use std::marker::Model;
 use top_rows::SortKeyList;
 use values::Row;
-use view_lang::{Change, RowView, Upkeep, group_law, passes, passing_rows};
+use view_lang::{Change, RowView, Upkeep, group_law, passing_rows};
 
 /// Groups of rows, and the entries of their rows in an order. Rows that tie are in the order of their tuples.
 #[derive(Debug, Drop)]
@@ -139,31 +136,6 @@ impl RankedGroups {
             ranking,
             entries: GroupEntries::from_parts(alloc, entries)?,
         })
-    }
-
-    /// The row that is shown of a tuple's group where it lies, if there is one.
-    fn shown<'a>(&'a self, tuple: &'a Tuple) -> Option<GroupRow<'a>>
-        ensures { result ≡ shown_at self.now.ranking self.now.groups tuple.now }
-    {
-        let Some(row) = self.groups.row(self.ranking.outputs(), tuple) else {
-            return None;
-        };
-        if passes(self.ranking.having(), &row) {
-            Some(row)
-        } else {
-            None
-        }
-    }
-
-    /// A copy of the row that is shown of a tuple's group, if there is one.
-    fn shown_row(&self, alloc: Global, tuple: &Tuple) -> Result<Option<Row>, AllocError>
-        ensures { IfOk result (λ row.
-            option_map (λ r. r.items) row ≡ shown_at self.now.ranking self.now.groups tuple.now) }
-    {
-        match self.shown(tuple) {
-            Some(row) => Ok(Some(row.copy(alloc)?)),
-            None => Ok(None),
-        }
     }
 
     /// The sort keys of the row that is shown of a tuple's group, if there is one and there are entries.
@@ -450,28 +422,23 @@ impl RankedGroups {
         self.groups.tuple_of(row)
     }
 
-    /// The tuples of the first entries, at most `most` of them.
-    fn first_tuples(&self, alloc: Global, most: usize) -> Result<Vec<Tuple>, AllocError>
-        ensures ascending { IsStrictlySortedBy group_entry_cmp self.now.entries }
-        ensures tuples { IfOk result (λ tuples.
-            tuples.items ≡ map (λ (p : EntrySeen). p.1) (take most self.now.entries)) }
+    /// The first rows that are shown of the groups, at most `most` of them, where they lie. `None` where the row that
+    /// is shown lies nowhere: without grouping columns there is one row, also where there are no rows to group. No
+    /// other group is read.
+    pub fn first_group_rows(
+        &self,
+        alloc: Global,
+        most: usize,
+    ) -> Result<Option<Vec<GroupRow<'_>>>, AllocError>
+        ensures { IfOk result (λ found. IfSome found (λ made.
+            WhereRead (Keeps self.now) self.now.groups self.now.ranking.outputs
+            (λ rows. made.items ≡ take most (ranked_rows self.now.groups.keys self.now.ranking rows)))) }
     {
-        self.entries.ascending_law();
-        let tuples = self.entries.first_tuples(alloc, most)?;
-        Ok(tuples)
-    }
-
-    /// The rows that are shown of the groups of these tuples.
-    fn rows_of_tuples(&self, alloc: Global, tuples: &[Tuple]) -> Result<Vec<Row>, AllocError>
-        ensures { IfOk result (λ made.
-            rows_of made.items ≡ filter_map (shown_at self.now.ranking self.now.groups) tuples.now) }
-    {
-        let mut made = Vec::with_capacity(alloc, tuples.len())?;
-        for tuple in tuples {
-            let row = self.shown_row(alloc, tuple)?;
-            push_some(&mut made, row)?;
+        if self.groups.is_bare() {
+            return Ok(None);
         }
-        Ok(made)
+        let made = self.lent_rows(alloc, most)?;
+        Ok(Some(made))
     }
 
     /// The first rows that are shown of the groups, at most `most` of them. No other group is read.
@@ -479,30 +446,32 @@ impl RankedGroups {
         ensures { IfOk result (λ made. WhereRead (Keeps self.now) self.now.groups self.now.ranking.outputs
             (λ rows. rows_of made.items ≡ take most (ranked_rows self.now.groups.keys self.now.ranking rows))) }
     {
-        if !self.ranking.has_entries() {
-            let made = self.groups.first_rows(alloc, self.ranking.outputs(), most)?;
-            return Ok(made);
-        }
-        let made = self.first_placed(alloc, most)?;
-        Ok(made)
-    }
-
-    /// The rows of the first entries, at most `most` of them.
-    fn first_placed(&self, alloc: Global, most: usize) -> Result<Vec<Row>, AllocError>
-        requires { has_entries self.now.ranking ≡ true }
-        ensures { IfOk result (λ made. WhereRead (Keeps self.now) self.now.groups self.now.ranking.outputs
-            (λ rows. rows_of made.items ≡ take most (ranked_rows self.now.groups.keys self.now.ranking rows))) }
-    {
-        group_law();
-        self.groups.tuples_ascend();
         if self.groups.is_bare() {
-            let made = self.groups.rows(alloc, self.ranking.outputs())?;
+            let made = self.groups.bare_rows(alloc, self.ranking.outputs())?;
             let mut shown = passing_rows(alloc, self.ranking.having(), made)?;
             shown.truncate(most);
             return Ok(shown);
         }
-        let tuples = self.first_tuples(alloc, most)?;
-        let made = self.rows_of_tuples(alloc, tuples.as_slice())?;
+        let lent = self.lent_rows(alloc, most)?;
+        let made = copies_of(alloc, lent.as_slice())?;
+        Ok(made)
+    }
+
+    /// The first rows that are shown of groups that aren't bare, at most `most` of them, where they lie.
+    fn lent_rows(&self, alloc: Global, most: usize) -> Result<Vec<GroupRow<'_>>, AllocError>
+        requires { (length self.now.groups.keys ≡ 0) × (length self.now.groups.groups ≡ 0) → ⊥ }
+        ensures { IfOk result (λ made. WhereRead (Keeps self.now) self.now.groups self.now.ranking.outputs
+            (λ rows. made.items ≡ take most (ranked_rows self.now.groups.keys self.now.ranking rows))) }
+    {
+        let outputs = self.ranking.outputs();
+        if !self.ranking.has_entries() {
+            let made = self.groups.first_rows(alloc, outputs, most)?;
+            return Ok(made);
+        }
+        group_law();
+        self.groups.tuples_ascend();
+        self.entries.ascending_law();
+        let made = self.entries.first_rows(alloc, &self.groups, outputs, most)?;
         Ok(made)
     }
 }
@@ -539,13 +508,13 @@ fn exchange(
     Ok(())
 }
 
-/// Adds a row, if there is one.
-fn push_some(rows: &mut Vec<Row>, row: Option<Row>) -> Result<(), AllocError>
-    ensures { OnOk result (rows_of rows.new.items
-        ≡ rows_of rows.old.items ++ cons_option (option_map (λ r. r.items) row) []) }
+/// Copies of rows.
+fn copies_of(alloc: Global, rows: &[GroupRow<'_>]) -> Result<Vec<Row>, AllocError>
+    ensures { IfOk result (λ copies. rows_of copies.items ≡ rows.now) }
 {
-    if let Some(row) = row {
-        rows.push(row)?;
+    let mut copies = Vec::with_capacity(alloc, rows.len())?;
+    for row in rows {
+        copies.push(row.copy(alloc)?)?;
     }
-    Ok(())
+    Ok(copies)
 }

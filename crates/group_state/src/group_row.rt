@@ -1,7 +1,10 @@
 //! Rows of groups where they lie: in the grouping tuple and in the tallies of the group.
 
-ghost use Rattle.std.specs.Prelude.{◌≡◌, IfOk};
+ghost use Rattle.std.specs.Prelude.{◌≡◌, IfOk, map, take};
+ghost use Rattle.std.specs.List.Sorted.{IsStrictlySortedBy};
+ghost use Rattle.std.specs.Map.{keys_of};
 ghost use Rattle.group_state.specs.Aggregates.{seen_row};
+ghost use Rattle.group_state.specs.Keys.{tuple_cmp};
 
 use crate::accumulated_columns::AccumulatedColumn;
 use crate::aggregates::{read_cell, view_cell};
@@ -10,6 +13,7 @@ use crate::group::Group;
 use crate::reading::read_row;
 use crate::tuple::Tuple;
 use std::alloc::{AllocError, Global};
+use std::collections::BTreeMap;
 use std::marker::Model;
 use values::{CellView, Row, Value};
 use view_lang::{GroupOutput, RowView};
@@ -85,4 +89,26 @@ impl<'a> RowView for GroupRow<'a> {
             None => Ok(no_value()),
         }
     }
+}
+
+/// The rows of the first groups where they lie, at most `most` of them.
+pub(crate) fn rows_of_first<'a>(
+    alloc: Global,
+    outputs: &'a [GroupOutput],
+    groups: &'a BTreeMap<Tuple, Group>,
+    columns: &'a [AccumulatedColumn],
+    most: usize,
+) -> Result<Vec<GroupRow<'a>>, AllocError>
+    ensures read { IfOk result (λ made. made.items
+        ≡ map (seen_row columns.now outputs.now) (take most groups.now.entries)) }
+    ensures ordered { IsStrictlySortedBy tuple_cmp (keys_of groups.now.entries) }
+{
+    let mut made = Vec::with_capacity(alloc, groups.len().min(most))?;
+    for (tuple, group) in groups.iter() {
+        if made.len() == most {
+            break;
+        }
+        made.push(GroupRow::new(outputs, columns, tuple, group))?;
+    }
+    Ok(made)
 }

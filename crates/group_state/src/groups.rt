@@ -71,9 +71,9 @@ use crate::accumulated_columns::AccumulatedColumn;
 use crate::aggregates::accumulated_columns;
 use crate::group::Group;
 use crate::group_reader::{GroupReader, NoReader, Readings};
-use crate::group_row::GroupRow;
+use crate::group_row::{GroupRow, rows_of_first};
 use crate::parts::GroupsParts;
-use crate::reading::{read_first, read_row, read_rows};
+use crate::reading::read_row;
 use crate::tuple::Tuple;
 use std::alloc::{AllocError, Global};
 use std::collections::{BTreeMap, BTreeSet};
@@ -174,45 +174,39 @@ impl Groups {
         Ok(Groups::new(alloc, by, columns.as_slice())?)
     }
 
-    /// The group rows, ascending by their tuples. Without grouping columns there is one row, also where there are no
-    /// rows to group.
-    pub fn rows(&self, alloc: Global, outputs: &[GroupOutput]) -> Result<Vec<Row>, AllocError>
-        ensures { IfOk result (λ made. WhereRead (Keeps self.now) self.now outputs.now (λ rows. rows_of made.items
-            ≡ group_rows self.now.keys outputs.now rows)) }
-    {
-        group_law();
-        if self.is_bare() {
-            let none = Group::new(alloc, self.columns.as_slice())?;
-            let mut made = Vec::new(alloc);
-            made.push(read_row(
-                alloc,
-                outputs,
-                &Tuple::none(alloc),
-                &none,
-                self.columns.as_slice(),
-            )?)?;
-            return Ok(made);
-        }
-        Ok(read_rows(alloc, outputs, &self.groups, self.columns.as_slice())?)
-    }
-
-    /// The first of the rows that `rows` gives, at most `most` of them. No other group is read.
-    pub fn first_rows(
-        &self,
+    /// The rows of the first groups where they lie, ascending by their tuples, at most `most` of them. No other group
+    /// is read. Of bare groups the one row lies nowhere: `bare_rows` makes it.
+    pub fn first_rows<'a>(
+        &'a self,
         alloc: Global,
-        outputs: &[GroupOutput],
+        outputs: &'a [GroupOutput],
         most: usize,
-    ) -> Result<Vec<Row>, AllocError>
-        ensures { IfOk result (λ made. WhereRead (Keeps self.now) self.now outputs.now (λ rows. rows_of made.items
+    ) -> Result<Vec<GroupRow<'a>>, AllocError>
+        requires { (length self.now.keys ≡ 0) × (length self.now.groups ≡ 0) → ⊥ }
+        ensures { IfOk result (λ made. WhereRead (Keeps self.now) self.now outputs.now (λ rows. made.items
             ≡ take most (group_rows self.now.keys outputs.now rows))) }
     {
         group_law();
-        if self.is_bare() {
-            let mut made = self.rows(alloc, outputs)?;
-            made.truncate(most);
-            return Ok(made);
-        }
-        Ok(read_first(alloc, outputs, &self.groups, self.columns.as_slice(), most)?)
+        Ok(rows_of_first(alloc, outputs, &self.groups, self.columns.as_slice(), most)?)
+    }
+
+    /// The rows of bare groups, thus one: without grouping columns there is one row, also where there are no rows to
+    /// group.
+    pub fn bare_rows(&self, alloc: Global, outputs: &[GroupOutput]) -> Result<Vec<Row>, AllocError>
+        requires { (length self.now.keys ≡ 0) × (length self.now.groups ≡ 0) }
+        ensures { IfOk result (λ made. WhereRead (Keeps self.now) self.now outputs.now (λ rows. rows_of made.items
+            ≡ group_rows self.now.keys outputs.now rows)) }
+    {
+        let none = Group::new(alloc, self.columns.as_slice())?;
+        let mut made = Vec::new(alloc);
+        made.push(read_row(
+            alloc,
+            outputs,
+            &Tuple::none(alloc),
+            &none,
+            self.columns.as_slice(),
+        )?)?;
+        Ok(made)
     }
 
     /// The row of a tuple's group, if it has one.
@@ -316,7 +310,7 @@ impl Groups {
         let _size = self.groups.len();
     }
 
-    /// Whether there are neither grouping columns nor groups.
+    /// Whether the groups are bare: there are neither grouping columns nor groups.
     pub fn is_bare(&self) -> bool
         ensures { IsTrue result ↔ ((length self.now.keys ≡ 0) × (length self.now.groups ≡ 0)) }
     {

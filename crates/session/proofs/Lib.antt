@@ -21,3 +21,5 @@ mod ReleasedRecords
 mod LastItems
 mod TouchedRows
 pub mod StoredViews
+pub mod LentRows
+pub mod LentViews

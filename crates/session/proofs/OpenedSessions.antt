@@ -207,7 +207,7 @@ sides_bounded : (sides : List SideTable) → All (λ s. IsSideTable s.table) sid
     → All IsSideTable (map (λ s. s.table) sides)
 sides_bounded sides bounded = All-map IsSideTable (λ (s : SideTable). s.table) sides (λ k d below. bounded k d below)
 
-tables_right : (conf : Config) → IsConfig conf → All IsTable (tables_of conf)
+pub tables_right : (conf : Config) → IsConfig conf → All IsTable (tables_of conf)
 tables_right conf right =
     All-cons IsTable conf.main (map (λ s. s.table) conf.sides) right.main (sides_right conf.sides right.sides)
 

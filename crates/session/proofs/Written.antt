@@ -25,6 +25,7 @@ use Rattle.std.proofs.Common.{
   ◌∙◌,
   arith,
 }
+use Rattle.std.specs.Prelude.{All}
 use Rattle.std.proofs.lemmas.List.Elements.{All-weaker}
 use Rattle.values.specs.Coded.{AreCoded}
 use Rattle.values.specs.Datum.{Datum}
@@ -44,7 +45,7 @@ use Rattle.view_lang.specs.ConfigRules.{IsView}
 use Rattle.view_lang.specs.Joined.{Side}
 use Rattle.view_lang.specs.Laws.{Viewed, ViewsAreTables, ViewsHaveFewRows, ViewsHaveRows}
 use Rattle.view_lang.specs.Rows.{IsRow, RowsAreLight}
-use Rattle.view_lang.specs.TableRules.{AreColumns, AreSlim, AreWithin, IsSlim, IsWithin}
+use Rattle.view_lang.specs.TableRules.{AreColumns, AreSlim, AreWithin, IsSlim, IsTable, IsWithin}
 use Rattle.view_lang.specs.ViewColumns.{view_columns}
 use Rattle.view_lang.specs.Views.{view_of, view_rows}
 use Rattle.row_keys.specs.Slots.{live}
@@ -61,6 +62,17 @@ mutual
 
   within_one : (f : Rose NamedType) → IsWithin f → written.IsWithin f
   within_one (node f kids) h = (omega (arith, h.0.1), h.1, within_all kids h.2)
+
+-- the columns of a view are those of a table
+pub view_small :
+    (views : ViewsAreTables) (tables : List Table) (v : View) (fields : List (Rose NamedType)) → All IsTable tables
+    → IsView tables v → fields ≡ view_columns tables v → written.AreColumns fields
+view_small views tables v fields right view named =
+    let columns : List (Rose NamedType) = view_columns tables v in
+    let own : AreColumns columns = views tables v right view in
+    let small : written.AreColumns columns =
+    record { few = own.small; within = within_all (kids_of columns) own.within } in
+    subst written.AreColumns (sym named) small
 
 -- the rows of the main table
 abbrev main_rows : Rows → List (List Datum)

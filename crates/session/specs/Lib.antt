@@ -13,3 +13,4 @@ pub mod Parts
 pub mod Bounds
 pub mod Released
 pub mod WrittenViews
+pub mod LentRows

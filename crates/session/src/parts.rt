@@ -2,8 +2,8 @@
 
 use crate::link::Link;
 use crate::undo::UndoRecord;
+use stream_writer::EncodedSchema;
 use upkeep::LiveTablesParts;
-use values::Schema;
 use view_lang::FeedConfig;
 
 /// The parts of a `Session`. The stores of its tables alone hold rows: what is stored for the views, and the undo
@@ -15,7 +15,7 @@ pub struct SessionParts {
     /// The declarations of the feeds.
     pub feeds: Vec<FeedConfig>,
     /// The schemas of the views.
-    pub schemas: Vec<Schema>,
+    pub schemas: Vec<EncodedSchema>,
     /// The feeds, in the order of their declarations.
     pub links: Vec<Link>,
     pub tables: LiveTablesParts,

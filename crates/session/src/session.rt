@@ -47,11 +47,11 @@ use feed::Feed;
 use row_keys::RowStore;
 use std::alloc::{AllocError, Global};
 use std::marker::Model;
-use stream_writer::Sink;
+use stream_writer::{EncodedSchema, Sink};
 use upkeep::LiveTables;
+use values::Cause;
 use values::limits::MAX_UNDO_DEPTH;
-use values::{Cause, Schema};
-use view_lang::{Config, FeedConfig, SideTable, Table};
+use view_lang::{Config, FeedConfig, SideTable, Table, config_law};
 
 /// Opens the feeds of a configuration.
 fn open_feeds(alloc: Global, config: &Config) -> Result<Vec<Link>, AllocError>
@@ -71,15 +71,18 @@ fn open_feeds(alloc: Global, config: &Config) -> Result<Vec<Link>, AllocError>
 }
 
 /// The schemas of the views of a configuration.
-fn open_views(alloc: Global, config: &Config) -> Result<Vec<Schema>, AllocError>
+fn open_views(alloc: Global, config: &Config) -> Result<Vec<EncodedSchema>, AllocError>
     requires { IsConfig config.now }
     ensures { IfOk result (λ schemas.
         columns_of schemas.items ≡ map (view_columns (tables_of config.now)) config.now.views) }
 {
+    // It does nothing: the proof takes from it that a view's columns are within the limits of a table.
+    config_law();
     let mut schemas = Vec::with_capacity(alloc, config.views.len())?;
     for view in &config.views {
         let schema = config.view_schema(alloc, view)?;
-        schemas.push(schema)?;
+        let encoded = EncodedSchema::new(alloc, schema, &view.coded_outputs)?;
+        schemas.push(encoded)?;
     }
     Ok(schemas)
 }
@@ -132,7 +135,7 @@ pub struct Session {
     names: Vec<String>,
     feeds: Vec<FeedConfig>,
     // The schemas of the views.
-    schemas: Vec<Schema>,
+    schemas: Vec<EncodedSchema>,
     links: Vec<Link>,
     tables: LiveTables,
     records: HeapCircularBuffer<UndoRecord>,

@@ -1,11 +1,28 @@
 //! Writes views.
 
-ghost use Rattle.std.specs.Prelude.{◌≡◌, ◌<◌, All, List, false, OnOk, length, map, slice_set};
+ghost use Rattle.std.specs.Prelude.{
+  ◌≡◌,
+  ◌<◌,
+  [],
+  All,
+  IfOk,
+  IfSome,
+  List,
+  false,
+  get_or,
+  OnOk,
+  length,
+  map,
+  slice_set,
+  true,
+};
+ghost use Rattle.values.specs.CellViews.{viewed};
 ghost use Rattle.values.specs.Datum.{Datum};
 ghost use Rattle.body_writer.specs.Picked.{picked_rows};
 ghost use Rattle.stream_writer.specs.Sinks.{Writes};
-ghost use Rattle.stream_writer.specs.Stream.{canon};
+ghost use Rattle.stream_writer.specs.Stream.{canon, trees};
 ghost use Rattle.stream_writer.specs.Table.{IsTable};
+ghost use Rattle.stream_writer.specs.ViewedRows.{AreFlat, viewed_columns};
 ghost use Rattle.view_lang.specs.Config.{View};
 ghost use Rattle.view_lang.specs.ViewColumns.{view_columns};
 ghost use Rattle.row_keys.specs.Slots.{IsLiveAt, row_of};
@@ -15,18 +32,21 @@ ghost use Rattle.upkeep.specs.Shown.{AreJoined, joined_in};
 ghost use Rattle.upkeep.specs.Stores.{HaveSameRows, main_slots, rows_in, tables_in};
 ghost use Rattle.upkeep.specs.Touched.{OpensShown};
 ghost use Rattle.upkeep.specs.ViewStates.{width_in};
-ghost use Rattle.upkeep.specs.ViewedRows.{IsViewed, ShowsView};
+ghost use Rattle.upkeep.specs.ViewedRows.{IsViewed, ShowsView, rows_shown};
+ghost use Rattle.session.specs.LentRows.{lent_column, lent_columns};
 ghost use Rattle.session.specs.WrittenViews.{IsReadBack, stream_at};
 
 use body_writer::LocatedRows;
+use group_state::GroupRow;
 use row_keys::Visits;
-use std::alloc::Global;
+use std::alloc::{AllocError, Global};
 use stream_writer::{
-    JoinedRows, Sink, WriteFault, coded_law, write_coded, write_locations, write_ranges,
+    EncodedSchema, JoinedRows, Sink, WriteFault, coded_law, has_flat_columns, write_cells,
+    write_coded, write_locations, write_ranges,
 };
 use upkeep::{JoinedColumns, LiveTables, Shown, StoredColumns, are_many};
-use values::Schema;
-use view_lang::{config_law, rows_law};
+use values::CellView;
+use view_lang::{RowView, config_law, rows_law};
 
 /// Rows count as scattered where runs of consecutive rows have no more than this many rows on average.
 const SHORT_RUNS: usize = 4;
@@ -41,7 +61,7 @@ fn are_scattered(runs: usize, count: usize, all: usize) -> bool {
 fn write_scattered<S: Sink>(
     alloc: Global,
     tables: &LiveTables,
-    schema: &Schema,
+    schema: &EncodedSchema,
     columns: &[usize],
     visits: Visits,
     sink: &mut S,
@@ -68,7 +88,7 @@ fn write_scattered<S: Sink>(
 fn write_stored<S: Sink>(
     alloc: Global,
     tables: &LiveTables,
-    schema: &Schema,
+    schema: &EncodedSchema,
     stored: StoredColumns,
     sink: &mut S,
 ) -> Result<u64, WriteFault>
@@ -94,7 +114,7 @@ fn write_stored<S: Sink>(
 fn write_joined<S: Sink>(
     alloc: Global,
     tables: &LiveTables,
-    schema: &Schema,
+    schema: &EncodedSchema,
     joined: JoinedColumns,
     sink: &mut S,
 ) -> Result<u64, WriteFault>
@@ -134,7 +154,7 @@ fn write_shown<S: Sink>(
     alloc: Global,
     tables: &LiveTables,
     place: usize,
-    schema: &Schema,
+    schema: &EncodedSchema,
     shown: Shown,
     sink: &mut S,
 ) -> Result<u64, WriteFault>
@@ -157,12 +177,83 @@ fn write_shown<S: Sink>(
     }
 }
 
+/// The cells of a column of rows, where they lie.
+fn column_of<'a>(
+    alloc: Global,
+    rows: &'a [GroupRow<'_>],
+    column: usize,
+) -> Result<Vec<CellView<'a>>, AllocError>
+    ensures { IfOk result (λ cells. map viewed cells.items ≡ lent_column column rows.now) }
+{
+    let mut cells = Vec::with_capacity(alloc, rows.len())?;
+    for row in rows {
+        cells.push(row.cell(column))?;
+    }
+    Ok(cells)
+}
+
+/// The cells of the first `count` columns of rows, where they lie.
+fn columns_of<'a>(
+    alloc: Global,
+    rows: &'a [GroupRow<'_>],
+    count: usize,
+) -> Result<Vec<Vec<CellView<'a>>>, AllocError>
+    ensures { IfOk result (λ columns. viewed_columns columns.items ≡ lent_columns count rows.now) }
+{
+    let mut columns = Vec::with_capacity(alloc, count)?;
+    for column in 0..count {
+        let cells = column_of(alloc, rows, column)?;
+        columns.push(cells)?;
+    }
+    Ok(columns)
+}
+
+/// Writes the canonical stream of rows from where they lie, and returns its length in bytes.
+fn write_lent<S: Sink>(
+    alloc: Global,
+    schema: &EncodedSchema,
+    rows: &[GroupRow<'_>],
+    sink: &mut S,
+) -> Result<u64, WriteFault>
+    requires flat { AreFlat (trees schema.now.fields.items) }
+    requires table { IsTable schema.now.fields.items rows.now }
+    ensures { Writes (S.sunk sink.old) (S.sunk sink.new) result (canon schema.now.fields.items rows.now) }
+{
+    let columns = columns_of(alloc, rows, schema.schema().fields.len())?;
+    write_cells(alloc, sink, schema, &columns, rows.len())
+}
+
+/// The rows that a view of groups shows, where they lie. `None` where they can't be written from there: where an output
+/// is coded, a column is of lists or of structs with fields, or the row that is shown lies nowhere.
+fn lent_rows<'a>(
+    tables: &'a LiveTables,
+    place: usize,
+    schema: &EncodedSchema,
+) -> Result<Option<Vec<GroupRow<'a>>>, AllocError>
+    requires there { place < length tables.now.views }
+    requires fresh { get_or tables.now.stale place true ≡ false }
+    ensures rows { IfOk result (λ found. IfSome found
+        (λ rows. rows.items ≡ rows_shown tables.now.stores (view_at tables.now.views place))) }
+    ensures viewed { IfOk result (λ found. IfSome found
+        (λ rows. IsViewed tables.now.stores (view_at tables.now.views place))) }
+    ensures plain { IfOk result (λ found. IfSome found
+        (λ rows. (view_at tables.now.views place).coded_outputs ≡ [])) }
+    ensures flat { IfOk result (λ found. IfSome found (λ rows. AreFlat (trees schema.now.fields.items))) }
+{
+    let view = &tables.views()[place];
+    if !view.coded_outputs.is_empty() || !has_flat_columns(schema) {
+        return Ok(None);
+    }
+    let found = tables.group_rows(place)?;
+    Ok(found)
+}
+
 /// Writes the canonical stream of what a view shows of the live rows, and returns its length in bytes.
 pub(crate) fn write_rows<S: Sink>(
     alloc: Global,
     tables: &mut LiveTables,
     place: usize,
-    schema: &Schema,
+    schema: &EncodedSchema,
     sink: &mut S,
 ) -> Result<u64, WriteFault>
     requires main { 0 < length tables.old.stores }
@@ -181,6 +272,10 @@ pub(crate) fn write_rows<S: Sink>(
     config_law();
     rows_law();
     coded_law();
+    tables.refresh(place)?;
+    if let Some(rows) = lent_rows(tables, place, schema)? {
+        return write_lent(alloc, schema, &rows, sink);
+    }
     let shown = tables.view_rows(place)?;
     write_shown(alloc, tables, place, schema, shown, sink)
 }

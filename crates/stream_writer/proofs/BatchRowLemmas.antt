@@ -93,7 +93,7 @@ light-len ls rows left count light e is =
 
 -- batch after batch
 
-rows_from-length : (columns : List (List Datum)) (i n : ℕ) → length (rows_from columns i n) ≡ n
+pub rows_from-length : (columns : List (List Datum)) (i n : ℕ) → length (rows_from columns i n) ≡ n
 unfolding rows_from
 rows_from-length columns i zero = refl
 rows_from-length columns i (suc n) = ap suc (rows_from-length columns (i + 1) n)

@@ -33,3 +33,4 @@ mod RangeBoundLemmas
 mod JoinedLemmas
 mod PlaceBoundLemmas
 mod PlaceRowLemmas
+pub mod ViewLemmas

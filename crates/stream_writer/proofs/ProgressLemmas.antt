@@ -1,6 +1,6 @@
 -- A table is written while its rows come.
 use Rattle.std.proofs.Common.{◌≡◌, ℕ, ◌+◌, ◌-◌, ◌*◌, ◌^◌, ◌<◌, ◌≤◌, List, [], ◌++◌, length, take, drop, ap, sym, ◌∙◌, arith, append_assoc, append-nil, length-append, length-drop, subst, Result, Ok, Err, inl, inr}
-use Rattle.std.specs.Prelude.{All, Bool, true, false, ◌==◌, ◌||◌, nat_lt, IfErr, MatchResult}
+use Rattle.std.specs.Prelude.{All, Bool, true, false, ◌==◌, ◌||◌, nat_lt, IfErr, IfOk, MatchResult}
 use Rattle.std.specs.Result.{IsErrAnd}
 use Rattle.std.proofs.lemmas.Bool.{cases_lt}
 use Rattle.std.proofs.lemmas.List.{drop-drop}
@@ -158,6 +158,11 @@ put-more start now written fs coded rows held new put sound more later =
     (put (new ++ more) (All-append (IsRow fs) new more sound later)))
 
 -- what one put of the Schema message answers, whatever rows come
+pub put-short : (r : Result ℕ WriteFault) (bytes : List ℕ) → length bytes ≤ 2 ^ 39
+    → IfOk r (λ n. n ≡ 0 + length bytes) → IfOk r (λ n. n ≤ 2 ^ 39)
+put-short (Ok n) bytes short counted = omega (arith, short, counted)
+put-short (Err fault) bytes short counted = tt
+
 pub schema-put : (answer : Result ℕ WriteFault) (start now : Sunk) (fs : List (Rose NamedType)) (coded : List ℕ)
     → ((more : List (List Datum)) → All (IsRow fs) more
     → MatchResult answer (λ n. WrittenSoFar start now n (coded_canon fs coded more)

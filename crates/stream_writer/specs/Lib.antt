@@ -22,3 +22,4 @@ pub mod RangeRows
 pub mod RangeBounds
 pub mod JoinedRows
 pub mod PlaceRows
+pub mod ViewedRows

@@ -9,7 +9,7 @@ use Rattle.values.specs.declared.layout.Layout.{Layout}
 use Rattle.values.specs.Logical.{NamedType}
 use Rattle.schema_meta.specs.SchemaTree.{AreColumns}
 use Rattle.stream_writer.specs.Sinks.{Sunk, Writes}
-use Rattle.stream_writer.specs.Stream.{batches, coded_canon, end_mark, trees}
+use Rattle.stream_writer.specs.Stream.{batches, coded_canon, end_mark, schema_message, trees}
 use Rattle.stream_writer.specs.Table.{IsRow}
 use Rattle.stream_writer.specs.WrittenSoFar.{WrittenSoFar}
 use Rattle.stream_writer.specs.declared.faults.WriteFault.{WriteFault}
@@ -44,6 +44,11 @@ pub record IsHeld (fs : List (Rose NamedType)) (ls : List (Rose Layout)) (rows h
 -- the last n rows
 abbrev pub last_rows : ℕ → List (List Datum) → List (List Datum)
 last_rows n rows = drop (length rows - n) rows
+
+-- These bytes are the Schema message of a table with these columns, some of which are coded.
+pub record IsSchemaMessage (bytes : List ℕ) (coded : List ℕ) (fs : List (Rose NamedType)) : Type 0 where
+  pub bytes_are : bytes ≡ schema_message coded fs
+  pub short : length bytes ≤ 2 ^ 39
 
 -- the Schema message of a table without rows so far is put, or the writer stops in it
 abbrev pub PutsSchema : Sunk → Sunk → List (Rose NamedType) → List ℕ → Result ℕ WriteFault → Type 0

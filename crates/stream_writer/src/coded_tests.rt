@@ -6,7 +6,7 @@ ghost use Rattle.values.specs.Datum.{text};
 ghost use Rattle.values.specs.Kinds.{datum_of};
 ghost use Rattle.stream_writer.specs.Sample as sample;
 
-use crate::{DeviceFault, MemorySink, Sink, WriteFault, write_coded};
+use crate::{DeviceFault, EncodedSchema, MemorySink, Sink, WriteFault, write_coded};
 use std::alloc::{AllocError, Global};
 use std::test::Fail;
 use values::{ColType, Kind, LogicalField, OffsetWidth, Row, Schema, Value};
@@ -55,7 +55,7 @@ fn write_sample<S: Sink>(
     alloc: Global,
     sink: &mut S,
 ) -> Result<Result<u64, WriteFault>, AllocError> {
-    let schema = schema(alloc)?;
+    let schema = EncodedSchema::new(alloc, schema(alloc)?, &[0])?;
     let rows = rows(alloc)?;
     Ok(write_coded(alloc, sink, &schema, &[0], &rows))
 }

@@ -11,6 +11,7 @@ mod coded_batch;
 mod dictionary_batch;
 mod dictionary_builder;
 mod encoded;
+mod encoded_schema;
 mod faults;
 mod joined_copies;
 mod joined_rows;
@@ -28,8 +29,10 @@ mod rows;
 mod sink;
 mod table;
 mod table_writer;
+mod viewed_rows;
 mod weighing;
 
+pub use encoded_schema::EncodedSchema;
 pub use faults::WriteFault;
 pub use joined_rows::JoinedRows;
 pub use laws::{
@@ -40,9 +43,11 @@ pub use layouts::layouts_of;
 pub use memory::MemorySink;
 pub use sink::{DeviceFault, Sink, put_all};
 pub use table::{
-    write_batches, write_coded, write_locations, write_ranges, write_table, write_weighed_batches,
+    write_batches, write_cells, write_coded, write_locations, write_ranges, write_table,
+    write_weighed_batches,
 };
 pub use table_writer::TableWriter;
+pub use viewed_rows::has_flat_columns;
 pub use weighing::weights_in;
 
 #[cfg(test)]

@@ -1,12 +1,12 @@
 //! Writes a table of which later rows may still come.
 
-ghost use Rattle.std.specs.Prelude.{◌≡◌, ◌+◌, ◌^◌, ◌<◌, ◌≤◌, ◌==◌, ◌||◌, List, IfOk, length, nat_lt};
+ghost use Rattle.std.specs.Prelude.{◌≡◌, ◌+◌, ◌^◌, ◌<◌, ◌≤◌, ◌==◌, ◌||◌, List, IfOk, IfSome, length, nat_lt};
 ghost use Rattle.values.specs.Datum.{Datum};
 ghost use Rattle.values.specs.Limits.{max_batch_rows};
 ghost use Rattle.values.specs.Logical.{NamedType};
 ghost use Rattle.values.specs.Rose.{Rose};
 ghost use Rattle.schema_meta.specs.SchemaTree.{AreColumns};
-ghost use Rattle.stream_writer.specs.Progress.{IsHeld, PutsFirst, PutsRest, PutsSchema, StayHeld};
+ghost use Rattle.stream_writer.specs.Progress.{IsHeld, IsSchemaMessage, PutsFirst, PutsRest, PutsSchema, StayHeld};
 ghost use Rattle.stream_writer.specs.WrittenSoFar.{PutsNext};
 
 use crate::faults::WriteFault;
@@ -44,19 +44,25 @@ pub(crate) fn put_after<S: Sink>(
     }
 }
 
-/// Puts the Schema message of a table without rows so far, and returns how many bytes it has.
+/// Puts the Schema message of a table without rows so far, which may have been encoded before, and returns how many
+/// bytes it has.
 pub(crate) fn put_schema<S: Sink>(
     alloc: Global,
     sink: &mut S,
     schema: &Schema,
     coded: &[usize],
+    message: Option<&[u8]>,
 ) -> Result<u64, WriteFault>
-    requires { AreColumns schema.now.fields.items }
+    requires columns { AreColumns schema.now.fields.items }
+    requires message { IfSome message (λ m. IsSchemaMessage m.now coded.now schema.now.fields.items) }
     ensures size { IfOk result (λ n. n ≤ 2 ^ 39) }
     ensures goes { PutsSchema (S.sunk sink.old) (S.sunk sink.new) schema.now.fields.items coded.now result }
 {
-    let message = messages::schema_message(alloc, schema, coded)?;
-    put_after(sink, &message, 0)
+    if let Some(message) = message {
+        return put_after(sink, message, 0);
+    }
+    let encoded = messages::schema_message(alloc, schema, coded)?;
+    put_after(sink, &encoded, 0)
 }
 
 /// Whether the next batch, which has `count` of the `rows` remaining rows, stays as it is when more come.

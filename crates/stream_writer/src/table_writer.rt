@@ -79,7 +79,7 @@ impl TableWriter {
             (λ fault. StopsIn (S.sunk sink.old) (S.sunk sink.new) fault schema.now.fields.items [] []) }
     {
         let layouts = layouts_of(alloc, schema)?;
-        let written = put_schema(alloc, sink, schema, &[])?;
+        let written = put_schema(alloc, sink, schema, &[], None)?;
         Ok(TableWriter {
             layouts,
             held: Vec::new(alloc),

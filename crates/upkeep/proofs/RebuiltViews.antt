@@ -6,6 +6,7 @@ use Rattle.std.proofs.Common.{
   suc,
   ◌<◌,
   false,
+  true,
   Bool,
   List,
   [],
@@ -106,3 +107,17 @@ stale_there (x ∷ xs) (b ∷ bs) (suc k) s is at below =
     tail : List Bool → List Bool
     tail [] = []
     tail (c ∷ cs) = cs
+
+-- a view isn't among the stale ones where its state isn't stale
+pub fresh_kept : (states : List ViewState) (k : ℕ) (s : ViewState) → s ≡ get_or states k s → s.stale ≡ false
+    → k < length states → get_or (stale_in states) k true ≡ false
+fresh_kept [] k s at fresh below = absurd (omega (arith, below))
+fresh_kept (x ∷ xs) zero s at fresh below = ap (λ (y : ViewState). y.stale) (sym at) ∙ fresh
+fresh_kept (x ∷ xs) (suc k) s at fresh below = fresh_kept xs k s at fresh (omega (arith, below))
+
+-- nor where it was built anew
+pub fresh_set : (states : List ViewState) (k : ℕ) (s : ViewState) → s.stale ≡ false → k < length states
+    → get_or (stale_in (slice_set states k s)) k true ≡ false
+fresh_set [] k s fresh below = absurd (omega (arith, below))
+fresh_set (x ∷ xs) zero s fresh below = fresh
+fresh_set (x ∷ xs) (suc k) s fresh below = fresh_set xs k s fresh (omega (arith, below))

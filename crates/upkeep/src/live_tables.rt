@@ -54,14 +54,14 @@ ghost use Rattle.upkeep.specs.Stores.{released_at};
 ghost use Rattle.upkeep.specs.TablesParts.{AreLiveParts, live_with};
 ghost use Rattle.upkeep.specs.Touched.{OpensShown, built_of};
 ghost use Rattle.upkeep.specs.ViewStates.{width_at, width_in};
-ghost use Rattle.upkeep.specs.ViewedRows.{IsViewed, ShowsView};
+ghost use Rattle.upkeep.specs.ViewedRows.{IsViewed, ShowsView, rows_shown};
 
 use crate::all_views::{count_stale, follow_last, follow_scattered, fresh_states, replace_state};
 use crate::arrivals::arrivals_for;
 use crate::follow::rebuild;
 use crate::lookup_views::follow_lookups;
 use crate::parts::LiveTablesParts;
-use crate::reading::show_materialized;
+use crate::reading::{lend_materialized, show_materialized};
 use crate::shown::Shown;
 use crate::swaps::swap;
 use crate::view_parts::{make_states, take_states};
@@ -69,6 +69,7 @@ use crate::view_state::{Turn, ViewState};
 use crate::viewed::viewed_law;
 use arrays::Column;
 use body_writer::RowRange;
+use group_state::GroupRow;
 use row_keys::{EditFault, RowStore, StoredLocations, TableChange, Visits, numbers_law};
 use std::alloc::{AllocError, Global};
 use std::marker::Model;
@@ -428,11 +429,12 @@ impl LiveTables {
     }
 
     /// Builds a view anew if it is stale.
-    fn refresh(&mut self, place: usize) -> Result<(), AllocError>
+    pub fn refresh(&mut self, place: usize) -> Result<(), AllocError>
         requires { place < length self.old.views }
         ensures same_rows { HaveSameRows self.old.stores self.new.stores }
         ensures views { self.new.views ≡ self.old.views }
         ensures stale { OnOk result (self.new.stale ≡ slice_set self.old.stale place false) }
+        ensures fresh { OnOk result (get_or self.new.stale place true ≡ false) }
         ensures err { OnErr result (self.new.stale ≡ self.old.stale) }
         ensures visits { visits_in self.new.stores ≤ visits_in self.old.stores
             + built_of (get_or self.old.stale place true) (main_slots self.old.stores) }
@@ -459,6 +461,20 @@ impl LiveTables {
         let view = &self.views[place];
         viewed_law(&self.stores, view);
         show_materialized(self.alloc, &mut self.stores, view, &self.states[place])
+    }
+
+    /// The rows that a view of groups shows, where they lie. `None` for a plain view, and where the row that is shown
+    /// lies nowhere. It opens no row.
+    pub fn group_rows(&self, place: usize) -> Result<Option<Vec<GroupRow<'_>>>, AllocError>
+        requires there { place < length self.now.views }
+        requires fresh { get_or self.now.stale place true ≡ false }
+        ensures rows { IfOk result (λ found. IfSome found
+            (λ rows. rows.items ≡ rows_shown self.now.stores (view_at self.now.views place))) }
+        ensures viewed { IfOk result (λ found. IsViewed self.now.stores (view_at self.now.views place)) }
+    {
+        let view = &self.views[place];
+        viewed_law(&self.stores, view);
+        lend_materialized(self.alloc, &self.stores, view, &self.states[place])
     }
 
     /// How many columns the main table has. It takes no memory.

@@ -57,6 +57,7 @@ use crate::joined_row::JoinedRow;
 use crate::shown::{JoinedColumns, Shown, StoredColumns, are_many, shown_columns, shows_stored};
 use crate::view_state::{Materialized, ViewState};
 use group_order::RankedGroups;
+use group_state::GroupRow;
 use row_keys::{RowStore, Visits, numbers_law};
 use std::alloc::{AllocError, Global};
 use top_rows::Ordered;
@@ -356,6 +357,39 @@ fn group_rows(alloc: Global, view: &View, groups: &RankedGroups) -> Result<Vec<R
 {
     reading_law();
     groups.first_rows(alloc, view.first.unwrap_or(MAX_MAIN_ROWS))
+}
+
+/// The rows that a view of groups shows, where they lie. `None` where the row that is shown lies nowhere. No other group
+/// is read.
+fn lend_groups<'a>(
+    alloc: Global,
+    view: &View,
+    groups: &'a RankedGroups,
+) -> Result<Option<Vec<GroupRow<'a>>>, AllocError>
+    ensures { IfOk result (λ found. IfSome found (λ rows. WhereReadable view.now (kept.Groups groups.now)
+        (λ side slots. rows.items ≡ view_rows view.now side (live slots)))) }
+{
+    reading_law();
+    groups.first_group_rows(alloc, view.first.unwrap_or(MAX_MAIN_ROWS))
+}
+
+/// The rows that a view shows from its materialized groups, which aren't stale, where they lie. `None` where no groups
+/// are materialized, and where the row that is shown lies nowhere.
+pub(crate) fn lend_materialized<'a>(
+    alloc: Global,
+    stores: &[RowStore],
+    view: &View,
+    state: &'a ViewState,
+) -> Result<Option<Vec<GroupRow<'a>>>, AllocError>
+    requires viewed { IsViewed stores.now view.now }
+    requires fresh { state.now.stale ≡ false }
+    requires current { IsCurrentFor stores.now view.now state.now (numbered (main_slots stores.now)) }
+    ensures { IfOk result (λ found. IfSome found (λ rows. rows.items ≡ rows_shown stores.now view.now)) }
+{
+    match &state.kept {
+        Materialized::Groups(groups) => lend_groups(alloc, view, groups),
+        Materialized::Live | Materialized::Order(_) => Ok(None),
+    }
 }
 
 /// What a view shows, from its materialized rows, which aren't stale. A view of groups opens no row.

@@ -1,0 +1,10 @@
+use Rattle.std.proofs.Common.{ap, sym}
+use Rattle.std.specs.Prelude.{◌==◌}
+use Rattle.stream_writer.specs.ViewedRows.{viewed_columns}
+use Rattle.stream_writer.proofs.BatchRowLemmas.{rows_from-length}
+use Rattle.stream_writer.proofs.viewed_rows.ViewedRowsRowSource.is_empty.Goals as goal
+
+pub returns : goal.returns
+returns c =
+    let r = c.args.self.now in
+    ap (λ n. n == 0) (sym (rows_from-length (viewed_columns r.columns.now) r.from r.left))
