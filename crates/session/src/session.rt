@@ -128,7 +128,6 @@ fn open_tables(
 /// Tables that feeds change, edits of them that can be undone, and views of them that can be written.
 ///
 /// Contracts see its parts, and which states of `specs/Steps.antt` they represent.
-#[derive(Drop)]
 pub struct Session {
     alloc: Global,
     // The names of the side tables.
@@ -139,6 +138,21 @@ pub struct Session {
     links: Vec<Link>,
     tables: LiveTables,
     records: HeapCircularBuffer<UndoRecord>,
+}
+
+// Written out, so that what it drops is proved here, and not in each crate that drops a session.
+impl Drop for Session {
+    fn drop(self) {
+        let Session {
+            alloc: _,
+            names: _,
+            feeds: _,
+            schemas: _,
+            links: _,
+            tables: _,
+            records: _,
+        } = self;
+    }
 }
 
 impl Model for Session {

@@ -90,7 +90,6 @@ fn table_of(role: Role, tables: usize) -> usize
 /// A view is stale when memory for keeping it current was refused; it is built anew when it is read next.
 ///
 /// Contracts see `LiveParts` of `specs/LiveParts.antt`.
-#[derive(Drop)]
 pub struct LiveTables {
     alloc: Global,
     // The store of the main table comes first.
@@ -98,6 +97,18 @@ pub struct LiveTables {
     views: Vec<View>,
     // What is stored for each view.
     states: Vec<ViewState>,
+}
+
+// Written out, so that what it drops is proved here, and not in each crate that drops such tables.
+impl Drop for LiveTables {
+    fn drop(self) {
+        let LiveTables {
+            alloc: _,
+            stores: _,
+            views: _,
+            states: _,
+        } = self;
+    }
 }
 
 impl Model for LiveTables {
