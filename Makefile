@@ -31,7 +31,7 @@ lib: need-rt
 	@tools/makers/make-library.sh crates/lv_c/out/liblv_c.a $(LIBRARY)
 
 # The merge gate: every proof from nothing, contracts, layout, tests, the program over its runs, and then must-fail edits:
-# of crates whose edits were all refused as they stand (tools/gate/edits-tried.txt) a fifth, and none begun 80 minutes
+# of crates whose edits were all refused as they stand (tools/gate/edits-tried.txt) a fifth, and none begun 40 minutes
 # after its beginning or later. `make release` tries all that aren't recorded, however long it takes.
 test: need-rt need-python
 	@tools/gate/gate.py
