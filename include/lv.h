@@ -34,7 +34,7 @@
 extern "C" {
 #endif
 
-#define LV_VERSION "1.0.6"
+#define LV_VERSION "1.0.7"
 
 /* The cause of a call whose handle isn't open, and of lv_open where it is. */
 #define LV_NOT_OPEN 255

@@ -15,4 +15,4 @@ from lv.causes import CAUSES
 from lv.session import Event, Session, place_of_fault, recast
 
 __all__ = ["CAUSES", "Event", "Refused", "Session", "place_of_fault", "recast"]
-__version__ = "1.0.6"
+__version__ = "1.0.7"

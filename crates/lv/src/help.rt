@@ -2,7 +2,7 @@
 
 use std::io::Write;
 
-const VERSION: &str = "lv 1.0.6\n";
+const VERSION: &str = "lv 1.0.7\n";
 
 const USAGE: &str = "\
 Usage: lv inspect FILE          prints, message by message, what a stream holds
