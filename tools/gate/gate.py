@@ -46,7 +46,7 @@ from records import RECORD, all_of, none_of, part_of, plan, turn_of
 
 ROOT = os.path.abspath(f"{__file__}/../../..")
 PROGRAM, LIBRARY = "lv", "lv_c"
-# The minute after which no edit is begun: on two cores, however slow, the gate is to end within 180.
+# The minute after which no edit is begun: the gate is to end within 180, on two shared cores too.
 UNTIL = 40
 # In how many processes a crate is proved on which others stand. Those on which none does can be proved side by side.
 JOBS_OF_A_LIBRARY = 2

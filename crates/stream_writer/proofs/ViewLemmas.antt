@@ -30,22 +30,11 @@ use Rattle.std.specs.Prelude.{Vec, map, max, min}
 use Rattle.std.specs.List.{drop-map, take-map}
 use Rattle.std.specs.declared.alloc.Global.{Global}
 use Rattle.std.proofs.lemmas.Bool.{cases_lt}
-use Rattle.std.proofs.lemmas.List.{
-  drop_all,
-  drop_more,
-  get_or-drop,
-  get_or-map,
-  get_or-take,
-  length-drop,
-  length-map,
-  length-take,
-  take_all,
-}
+use Rattle.std.proofs.lemmas.List.{drop_more, get_or-drop, get_or-map, get_or-take, length-drop, length-map, length-take, take_all}
 use Rattle.std.proofs.lemmas.List.Elements.{All-get_or, All-head, All-more, All-tail, All-weaker}
 use Rattle.values.specs.CellViews.{viewed}
-use Rattle.values.specs.Datum.{Datum, items_of, null}
+use Rattle.values.specs.Datum.{Datum, null}
 use Rattle.values.specs.Layouts.{weight}
-use Rattle.values.specs.Limits.{max_row_weight}
 use Rattle.values.specs.Logical.{NamedType, tree_of, trees_of}
 use Rattle.values.specs.Rose.{Rose, node, Roses, none, more, kids_of}
 use Rattle.values.specs.declared.cell_view.CellView.{CellView}
@@ -328,7 +317,8 @@ pub light-next :
     → AreFlat (kids_of ts) → length columns ≡ length ts → from + count ≤ length column.items → j < length ts
     → t ≡ get_or ts j t → t ≡ node l kids → column ≡ get_or columns j column
     → cells ≡ take count (drop from column.items)
-    → AreWithin l most cells → sum + most ≡ next → IsLightSoFar ts columns from count j sum → IsLightSoFar ts columns from count (j + 1) next
+    → AreWithin l most cells → sum + most ≡ next → IsLightSoFar ts columns from count j sum
+    → IsLightSoFar ts columns from count (j + 1) next
 light-next ts columns from count j sum most next t l kids column cells flat many long h e is read cut bound grown so =
     λ k below.
     let i : ℕ = from + k in
@@ -358,15 +348,6 @@ light-next ts columns from count j sum most next t l kids column cells flat many
     let light : W cell = subst W read_off (All-get_or W cells k Null there bound) in
     let before = so k below in
     omega (arith, step, light, before, grown)
-
-pub light-end :
-    (ts : List (Rose Layout)) (columns : List (Vec CellView Global)) (from count j sum : ℕ) → length ts ≤ j
-    → sum ≤ max_light_row → IsLightSoFar ts columns from count j sum
-    → (k : ℕ) → k < count → row_weight (kids_of ts) (row_at (viewed_columns columns) (from + k)) ≤ max_light_row
-light-end ts columns from count j sum h small so = λ k below.
-    let before = so k below in
-    let none_left = weight-end ts (row_at (viewed_columns columns) (from + k)) j h in
-    omega (arith, before, none_left, small)
 
 -- column by column
 

@@ -1,9 +1,6 @@
-use Rattle.std.proofs.Common.{◌≡◌, ◌∙◌, ◌≤◌, All, ap, arith, refl, subst, sym}
-use Rattle.std.specs.Prelude.{Vec, length}
-use Rattle.std.specs.declared.alloc.Global.{Global}
+use Rattle.std.proofs.Common.{◌≡◌, ◌∙◌, ap, arith, subst, sym}
 use Rattle.values.specs.Rose.{kids_of}
 use Rattle.values.specs.declared.schema.Schema.{Schema}
-use Rattle.values.specs.declared.cell_view.CellView.{CellView}
 use Rattle.stream_writer.specs.Stream.{trees}
 use Rattle.stream_writer.specs.ViewedRows.{AreFlat, viewed_columns}
 use Rattle.stream_writer.proofs.BatchRowLemmas.{as-many, rows_from-length}

@@ -1,4 +1,4 @@
-use Rattle.std.proofs.Common.{◌∙◌, arith, sym}
+use Rattle.std.proofs.Common.{arith, sym}
 use Rattle.values.specs.Rose.{kids_of}
 use Rattle.stream_writer.proofs.ViewLemmas.{weighs-next}
 use Rattle.stream_writer.proofs.viewed_rows.weigh_row.Goals as goal

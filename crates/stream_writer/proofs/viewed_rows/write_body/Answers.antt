@@ -1,4 +1,4 @@
-use Rattle.std.proofs.Common.{◌≡◌, ◌+◌, ◌∙◌, ◌<◌, ◌≤◌, List, ap, arith, drop, length, subst, sym, take}
+use Rattle.std.proofs.Common.{◌+◌, ◌∙◌, ◌<◌, ap, arith, drop, length, sym, take}
 use Rattle.values.specs.Rose.{kids_of, node, none}
 use Rattle.values.specs.declared.layout.Layout.TheVariants.{Struct}
 use Rattle.body_writer.specs.Batch.{row_cells}
